@@ -31,11 +31,10 @@ class Bare:
             if parts[3] == "declared":
                 self.take_type(self.sources.declared(item.module))
                 continue
-            root = ".".join(parts[:4])
-            for module, file in self.sources.specs.items():
-                if (module == root or module.startswith(root + ".")) and module not in self.modules:
-                    self.modules.append(module)
-                    self.follow(file.imports)
+            root = next(root for k in range(len(parts), 3, -1) if (root := ".".join(parts[:k])) in self.sources.specs)
+            if root not in self.modules:
+                self.modules.append(root)
+                self.follow(self.sources.specs[root].imports)
 
     def take_type(self, item):
         if item in self.types:
@@ -63,8 +62,14 @@ class Bare:
             path = os.path.join(folder, *file.module.split(".")[3:]) + ".antt"
             os.makedirs(os.path.dirname(path), exist_ok=True)
             shutil.copy(file.path, path)
-        with open(os.path.join(folder, "Lib.antt"), "w", encoding="utf-8") as root:
-            root.write("".join(f"pub mod {name}\n" for name in dict.fromkeys(file.module.split(".")[3] for file in files)))
+        named = {}
+        for *above, name in (file.module.split(".")[3:] for file in files):
+            for k, outer in enumerate(above):
+                named.setdefault(os.path.join(*above[:k]) if k else "Lib", {})[outer] = None
+            named.setdefault(os.path.join(*above) if above else "Lib", {})[name] = None
+        for path, names in named.items():
+            with open(os.path.join(folder, path + ".antt"), "w", encoding="utf-8") as root:
+                root.write("".join(f"pub mod {name}\n" for name in names))
 
     def write_types(self, to, crate):
         """Writes the types of a crate, each in the module in which it stands."""

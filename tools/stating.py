@@ -21,8 +21,8 @@ HEAD = """# The statement
 
 What [README](../README.md#what-is-proved) claims rests on the definitions below, and on nothing else of the repository: {count} definitions in {lines}
 lines of `specs/`, {types} types and traits of `src/` in {type_lines} lines, and the clauses of {calls} calls and laws, which are {clause_lines} lines
-in all. Of the other {others} definitions of `specs/` ({other_lines} lines) and of the proofs nothing has to be believed: the check reads them. A word
-of the kit's library is the kit's ([what is trusted](../README.md#what-isnt)).
+in all. Of the other {others} definitions, which are the {other_lines} lines of each `specs/inner`, and of the proofs nothing has to be believed: the
+check reads them. A word of the kit's library is the kit's ([what is trusted](../README.md#what-isnt)).
 
 This page is written by `tools/statement` from the sources, by their names and imports; [statement.txt](../tools/statement.txt) lists the claims.
 `tools/statement --check` says where it differs from them. A sentence here is the first one of the comment above the definition, which the link

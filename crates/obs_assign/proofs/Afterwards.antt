@@ -5,9 +5,10 @@ use Rattle.obs_graph.specs.declared.Ends.{Ends}
 use Rattle.obs_matroid.specs.Lists.{In}
 use Rattle.obs_matroid.proofs.Contained.{Contains-from_In}
 use Rattle.obs_assign.specs.declared.Move.{Move}
-use Rattle.obs_assign.specs.Assignment.{Assignment, IsWhole, branch_at}
-use Rattle.obs_assign.specs.Moves.{ArePath, moved}
-use Rattle.obs_assign.specs.Pins.{IsPinnedAt}
+use Rattle.obs_assign.specs.Assignment.{Assignment}
+use Rattle.obs_assign.specs.inner.Assignment.{IsWhole, branch_at}
+use Rattle.obs_assign.specs.inner.Moves.{ArePath, moved}
+use Rattle.obs_assign.specs.inner.Pins.{IsPinnedAt}
 use Rattle.obs_assign.proofs.Keeping.{path_low}
 use Rattle.obs_assign.proofs.Pinning.{pinned-at, pinned-other}
 use Rattle.obs_assign.proofs.Slotted.{slots_apart}

@@ -7,19 +7,20 @@ use Rattle.obs_graph.specs.Positions.{IsForestAt}
 use Rattle.obs_graph.specs.Graph.{Graph}
 use Rattle.obs_graph.proofs.AtPositions.{IsForestAt-among}
 use Rattle.obs_matroid.specs.Assignments.{branches}
-use Rattle.obs_matroid.specs.Closed.{HasFrozen}
-use Rattle.obs_matroid.specs.Slots.{pairs_of}
+use Rattle.obs_matroid.specs.inner.Closed.{HasFrozen}
+use Rattle.obs_matroid.specs.inner.Slots.{pairs_of}
 use Rattle.obs_matroid.proofs.Contained.{Contains-from_In, In-from_Contains, pairs_from_IsDistinct}
 use Rattle.obs_matroid.proofs.Slots.{slot_at}
 use Rattle.obs_meter.specs.declared.Touch.{Touch}
 use Rattle.obs_meter.specs.Assignments.{IsAssignmentAt}
 use Rattle.obs_meter.specs.Touches.{every_item}
-use Rattle.obs_forest.specs.Forest.{StandsOver as ForestStandsOver}
+use Rattle.obs_forest.specs.inner.Forest.{StandsOver as ForestStandsOver}
 use Rattle.obs_forest.proofs.Refilled.{StandsOver-taken}
 use Rattle.obs_assign.specs.declared.Move.{Move}
-use Rattle.obs_assign.specs.Assignment.{Assignment, IsWhole, StandsOver, has_flag, pairs}
-use Rattle.obs_assign.specs.Kept.{Kept, SlotsApart, seen, with_slots}
-use Rattle.obs_assign.specs.Moves.{ArePath, moved}
+use Rattle.obs_assign.specs.Assignment.{Assignment}
+use Rattle.obs_assign.specs.inner.Assignment.{IsWhole, StandsOver, has_flag, pairs}
+use Rattle.obs_assign.specs.inner.Kept.{Kept, SlotsApart, seen, with_slots}
+use Rattle.obs_assign.specs.inner.Moves.{ArePath, moved}
 use Rattle.obs_assign.proofs.Slotted.{IsForestAt-over, branch_slot, distinct-from_apart, none_some, slot_branch, slots_apart}
 use Rattle.obs_assign.proofs.Keeping.{HasFrozen-clear, HasFrozen-dropped, HasFrozen-moved, IsForestAt-empty, IsWhole-remade, StandsOver-remade, empty_pairs, empty_slot, length-moved, length-path, slot_without}
 

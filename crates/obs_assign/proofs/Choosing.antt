@@ -8,8 +8,8 @@ use Rattle.obs_graph.specs.declared.Ends.{Ends}
 use Rattle.obs_graph.specs.declared.search.Up.{Up}
 use Rattle.obs_meter.specs.declared.Touch.{Touch}
 use Rattle.obs_assign.specs.declared.Move.{Move}
-use Rattle.obs_assign.specs.Kept.{IsInverse}
-use Rattle.obs_assign.specs.Retain.{AreChosen, IsPairUp, touched_slot}
+use Rattle.obs_assign.specs.inner.Kept.{IsInverse}
+use Rattle.obs_assign.specs.inner.Retain.{AreChosen, IsPairUp, touched_slot}
 use Rattle.obs_assign.proofs.Slotted.{none_some, some_same}
 
 pub IfSome-by : {X : Type 0} (P : X → Type 0) (o : Option X) → ((x : X) → o ≡ Some x → P x) → IfSome o P

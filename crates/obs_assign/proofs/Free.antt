@@ -3,9 +3,9 @@ use Rattle.std.proofs.Common.{◌≡◌, ℕ, ◌<◌, List, [], ◌∷◌, Some
 use Rattle.obs_graph.specs.Positions.{AreBranches}
 use Rattle.obs_graph.specs.Graph.{Graph}
 use Rattle.obs_matroid.specs.Lists.{In}
-use Rattle.obs_matroid.specs.Assignments.{others}
-use Rattle.obs_matroid.specs.Exchange.{put}
-use Rattle.obs_matroid.specs.Slots.{pairs_of}
+use Rattle.obs_matroid.specs.inner.Assignments.{others}
+use Rattle.obs_matroid.specs.inner.Exchange.{put}
+use Rattle.obs_matroid.specs.inner.Slots.{pairs_of}
 use Rattle.obs_matroid.proofs.Contained.{All-from_In}
 use Rattle.obs_matroid.proofs.Exchange.{IsAssignment-put}
 use Rattle.obs_matroid.proofs.Order.{IsAssignment-within}
@@ -18,9 +18,10 @@ use Rattle.obs_meter.proofs.Assigned.{from_matroid, to_matroid}
 use Rattle.obs_meter.proofs.Instance.{IsMatroid-graph}
 use Rattle.obs_meter.proofs.Live.{In-every}
 use Rattle.obs_assign.specs.declared.Move.{Move}
-use Rattle.obs_assign.specs.Moves.{ArePath}
-use Rattle.obs_assign.specs.Assignment.{Assignment, IsWhole, StandsOver, pairs}
-use Rattle.obs_assign.specs.Pins.{joins}
+use Rattle.obs_assign.specs.inner.Moves.{ArePath}
+use Rattle.obs_assign.specs.Assignment.{Assignment}
+use Rattle.obs_assign.specs.inner.Assignment.{IsWhole, StandsOver, pairs}
+use Rattle.obs_assign.specs.inner.Pins.{joins}
 use Rattle.obs_assign.proofs.Standing.{IsAssignmentAt-standing}
 
 pub IsAssignmentAt-free : (a : Assignment) (g : Graph) (touches : List Touch) (m e : ℕ) → AreBranches g.vertices g.ends → IsWhole a → StandsOver a g touches → m < length a.slots → In e (touch_at g.ends touches m)

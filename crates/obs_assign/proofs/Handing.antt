@@ -5,14 +5,14 @@ use Rattle.std.proofs.lemmas.Bool.{cases_eq}
 use Rattle.std.proofs.lemmas.List.{drop_all, drop_more, same_lists}
 use Rattle.obs_matroid.specs.Lists.{In}
 use Rattle.obs_matroid.specs.Assignments.{branches}
-use Rattle.obs_matroid.specs.Slots.{pairs_of}
+use Rattle.obs_matroid.specs.inner.Slots.{pairs_of}
 use Rattle.obs_matroid.proofs.Lists.{length-within}
 use Rattle.obs_matroid.proofs.Contained.{In-from_All}
 use Rattle.obs_matroid.proofs.Bounds.{length-branches}
 use Rattle.obs_assign.specs.declared.Move.{Move}
-use Rattle.obs_assign.specs.Kept.{IsInverse, SlotsApart}
-use Rattle.obs_assign.specs.Moves.{HandsOn, moved}
-use Rattle.obs_assign.specs.Pins.{pinned_slots}
+use Rattle.obs_assign.specs.inner.Kept.{IsInverse, SlotsApart}
+use Rattle.obs_assign.specs.inner.Moves.{HandsOn, moved}
+use Rattle.obs_assign.specs.inner.Pins.{pinned_slots}
 use Rattle.obs_assign.proofs.Slotted.{distinct-from_apart, none_some, some_same}
 use Rattle.obs_assign.proofs.Pinning.{pinned-other}
 use Rattle.obs_assign.proofs.Afterwards.{Differ, head_apart, tail_apart}

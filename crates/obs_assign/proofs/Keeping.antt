@@ -9,20 +9,22 @@ use Rattle.obs_graph.specs.Positions.{IsForestAt}
 use Rattle.obs_graph.specs.Graph.{Graph}
 use Rattle.obs_matroid.specs.Lists.{In}
 use Rattle.obs_matroid.specs.Assignments.{Pair, branches}
-use Rattle.obs_matroid.specs.Closed.{HasFrozen}
-use Rattle.obs_matroid.specs.Slots.{pairs_from, pairs_of}
+use Rattle.obs_matroid.specs.inner.Closed.{HasFrozen}
+use Rattle.obs_matroid.specs.inner.Slots.{pairs_from, pairs_of}
 use Rattle.obs_matroid.proofs.Contained.{Contains-from_In, In-from_All, In-from_Contains}
 use Rattle.obs_matroid.proofs.Lists.{clash}
 use Rattle.obs_meter.specs.declared.Touch.{Touch}
 use Rattle.obs_meter.specs.Touches.{touch_at}
-use Rattle.obs_forest.specs.Forest.{Forest, taken}
-use Rattle.obs_forest.specs.Forest.{StandsOver as ForestStandsOver}
+use Rattle.obs_forest.specs.Forest.{Forest}
+use Rattle.obs_forest.specs.inner.Forest.{taken}
+use Rattle.obs_forest.specs.inner.Forest.{StandsOver as ForestStandsOver}
 use Rattle.obs_forest.proofs.Keeping.{taken-exactly}
 use Rattle.obs_forest.proofs.Refilled.{StandsOver-taken}
 use Rattle.obs_assign.specs.declared.Move.{Move}
-use Rattle.obs_assign.specs.Assignment.{Assignment, HasRoomOf, HoldsPairs, IsWhole, StandsOver, has_flag, pairs}
-use Rattle.obs_assign.specs.Kept.{HasArrays, IsInverse, IsListed, Kept, seen, with_slots}
-use Rattle.obs_assign.specs.Moves.{ArePath, moved}
+use Rattle.obs_assign.specs.Assignment.{Assignment}
+use Rattle.obs_assign.specs.inner.Assignment.{HasRoomOf, HoldsPairs, IsWhole, StandsOver, has_flag, pairs}
+use Rattle.obs_assign.specs.inner.Kept.{HasArrays, IsInverse, IsListed, Kept, seen, with_slots}
+use Rattle.obs_assign.specs.inner.Moves.{ArePath, moved}
 use Rattle.obs_assign.proofs.Slotted.{HoldsPairs-taken, IsForestAt-nil, item_slot, none_some, slot_item, slot_low}
 use Rattle.obs_assign.proofs.Moving.{length-moved_path, moved-some}
 

@@ -9,12 +9,13 @@ use Rattle.obs_graph.specs.Positions.{IsForestAt}
 use Rattle.obs_graph.proofs.AtPositions.{IsForestAt-among}
 use Rattle.obs_matroid.specs.Lists.{In}
 use Rattle.obs_matroid.specs.Assignments.{branches}
-use Rattle.obs_matroid.specs.Slots.{pairs_of}
+use Rattle.obs_matroid.specs.inner.Slots.{pairs_of}
 use Rattle.obs_matroid.proofs.Contained.{Contains-from_In, In-from_Contains, pairs_from_IsDistinct}
 use Rattle.obs_matroid.proofs.Lists.{In_same, In-append_cases, In-append_left, In-append_right, IsDistinct-append}
-use Rattle.obs_forest.specs.Forest.{has_position, taken}
+use Rattle.obs_forest.specs.Forest.{has_position}
+use Rattle.obs_forest.specs.inner.Forest.{taken}
 use Rattle.obs_forest.proofs.Held.{contains-has_position, get_or-taken, has_position-contains, length-taken}
-use Rattle.obs_assign.specs.Kept.{IsInverse, IsListed, SlotsApart}
+use Rattle.obs_assign.specs.inner.Kept.{IsInverse, IsListed, SlotsApart}
 use Rattle.obs_assign.proofs.Moving.{length-put_bare}
 use Rattle.obs_assign.proofs.Slotted.{branch_low, branch_slot, distinct_branches, length-pairs_of, none_some, slot_branch, slots_apart, some_same}
 

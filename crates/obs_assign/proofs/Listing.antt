@@ -3,9 +3,9 @@ use Rattle.std.proofs.Common.{◌≡◌, ℕ, suc, ◌+◌, ◌<◌, ◌≤◌, 
 use Rattle.std.proofs.lemmas.Bool.{cases_eq}
 use Rattle.std.proofs.lemmas.List.{take_more_set}
 use Rattle.obs_matroid.specs.Assignments.{branches}
-use Rattle.obs_matroid.specs.Slots.{pairs_from, pairs_of}
+use Rattle.obs_matroid.specs.inner.Slots.{pairs_from, pairs_of}
 use Rattle.obs_assign.proofs.Slotted.{some_same, none_some}
-use Rattle.obs_assign.specs.Kept.{SlotsApart}
+use Rattle.obs_assign.specs.inner.Kept.{SlotsApart}
 
 pub record IsListing (slots owners : List (Option ℕ)) (list : List ℕ) (count i : ℕ) : Type 0 where
   pub bound : count ≤ i

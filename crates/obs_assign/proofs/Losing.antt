@@ -8,11 +8,12 @@ use Rattle.obs_graph.specs.Positions.{IsForestAt}
 use Rattle.obs_graph.proofs.AtPositions.{IsForestAt-among}
 use Rattle.obs_matroid.specs.Lists.{In, IsDistinct}
 use Rattle.obs_matroid.specs.Assignments.{branches}
-use Rattle.obs_matroid.specs.Slots.{pairs_of}
+use Rattle.obs_matroid.specs.inner.Slots.{pairs_of}
 use Rattle.obs_matroid.proofs.Contained.{Contains-from_In, In-from_Contains, pairs_from_IsDistinct}
 use Rattle.obs_graph.specs.Graph.{Graph}
-use Rattle.obs_forest.specs.Forest.{Forest, StandsOver, taken}
-use Rattle.obs_assign.specs.Kept.{IsInverse, IsListed}
+use Rattle.obs_forest.specs.Forest.{Forest}
+use Rattle.obs_forest.specs.inner.Forest.{StandsOver, taken}
+use Rattle.obs_assign.specs.inner.Kept.{IsInverse, IsListed}
 use Rattle.obs_assign.proofs.Keeping.{slot_without}
 use Rattle.obs_assign.proofs.Listed.{IsForestAt-listed, taken-same}
 use Rattle.obs_assign.proofs.Moving.{length-put_bare}

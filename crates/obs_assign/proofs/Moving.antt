@@ -3,12 +3,12 @@ use Rattle.std.proofs.Common.{◌≡◌, ◌≢◌, ℕ, zero, suc, ◌+◌, ◌
 use Rattle.std.proofs.lemmas.Bool.{cases_eq}
 use Rattle.obs_matroid.specs.Lists.{In}
 use Rattle.obs_matroid.specs.Assignments.{Pair}
-use Rattle.obs_matroid.specs.Exchange.{put, put_all}
-use Rattle.obs_matroid.specs.Slots.{pairs_from, pairs_of}
+use Rattle.obs_matroid.specs.inner.Exchange.{put, put_all}
+use Rattle.obs_matroid.specs.inner.Slots.{pairs_from, pairs_of}
 use Rattle.obs_matroid.proofs.Order.{put_all_within}
 use Rattle.obs_matroid.proofs.Slots.{slots_put}
 use Rattle.obs_assign.specs.declared.Move.{Move}
-use Rattle.obs_assign.specs.Moves.{moved}
+use Rattle.obs_assign.specs.inner.Moves.{moved}
 use Rattle.obs_assign.proofs.Slotted.{none_some, slot_low}
 
 -- the pair that a move makes

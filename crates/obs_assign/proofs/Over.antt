@@ -3,11 +3,12 @@ use Rattle.std.proofs.Common.{◌≡◌, ℕ, Bool, List, Option, refl, sym, ap,
 use Rattle.obs_graph.specs.Graph.{Graph}
 use Rattle.obs_graph.specs.Positions.{IsForestAt}
 use Rattle.obs_matroid.specs.Assignments.{branches}
-use Rattle.obs_matroid.specs.Slots.{pairs_of}
-use Rattle.obs_forest.specs.Forest.{Forest, StandsOver, taken}
+use Rattle.obs_matroid.specs.inner.Slots.{pairs_of}
+use Rattle.obs_forest.specs.Forest.{Forest}
+use Rattle.obs_forest.specs.inner.Forest.{StandsOver, taken}
 use Rattle.obs_forest.proofs.Refilled.{StandsOver-taken}
-use Rattle.obs_assign.specs.Assignment.{HasRoomOf, HoldsPairs}
-use Rattle.obs_assign.specs.Kept.{IsListed, IsOver, Kept, seen, with_slots}
+use Rattle.obs_assign.specs.inner.Assignment.{HasRoomOf, HoldsPairs}
+use Rattle.obs_assign.specs.inner.Kept.{IsListed, IsOver, Kept, seen, with_slots}
 use Rattle.obs_assign.proofs.Keeping.{held_listed}
 use Rattle.obs_assign.proofs.Listed.{IsListed-all}
 use Rattle.obs_assign.proofs.Losing.{held_over}

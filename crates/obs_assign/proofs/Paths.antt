@@ -6,14 +6,15 @@ use Rattle.std.proofs.lemmas.Bool.{cases_eq, cases_Bool}
 use Rattle.obs_graph.specs.declared.Ends.{Ends}
 use Rattle.obs_graph.specs.Joined.{first_joined}
 use Rattle.obs_graph.specs.Positions.{AreBranches, ends_of, present}
-use Rattle.obs_graph.specs.Search.{IsPart}
+use Rattle.obs_graph.specs.inner.Search.{IsPart}
 use Rattle.obs_graph.proofs.AtPositions.{contains-ends_of, ends_of-contains, some_of}
 use Rattle.obs_graph.proofs.Forests.{AreAmong, same_first-among}
 use Rattle.obs_graph.proofs.IsJoined.{same-from_true, true-from_same, apart-from_false, false-from_apart}
 use Rattle.obs_graph.proofs.Present.{contains_present, present_contains, present_low}
 use Rattle.obs_matroid.specs.Lists.{In, other_than}
-use Rattle.obs_matroid.specs.Assignments.{branches, others, part}
-use Rattle.obs_matroid.specs.Slots.{pairs_of}
+use Rattle.obs_matroid.specs.Assignments.{branches}
+use Rattle.obs_matroid.specs.inner.Assignments.{others, part}
+use Rattle.obs_matroid.specs.inner.Slots.{pairs_of}
 use Rattle.obs_matroid.proofs.Lists.{clash, other_true, other_ne}
 use Rattle.obs_matroid.proofs.Pairs.{In-branches, In-branches_from, In-part, In-part_from, own}
 use Rattle.obs_matroid.proofs.Contained.{Contains-from_In, In-from_Contains, In-from_All}
@@ -22,12 +23,13 @@ use Rattle.obs_matroid.proofs.Slots.{slot_from, slot_at, IsDistinct-slots}
 use Rattle.obs_meter.specs.Spanned.{both_ends, ends_at, graph_matroid, joined_at}
 use Rattle.obs_meter.proofs.Instance.{IsJoining-graph, IsMatroid-graph}
 use Rattle.obs_meter.proofs.Assigned.{independent-from_forest_at}
-use Rattle.obs_forest.specs.Cycle.{IsCycle, without}
+use Rattle.obs_forest.specs.inner.Cycle.{IsCycle, without}
 use Rattle.obs_forest.proofs.Without.{other_present}
-use Rattle.obs_assign.specs.Assignment.{ArePaired, Assignment, HoldsPairs, frozen_branches, has_flag, is_frozen}
-use Rattle.obs_assign.specs.Kept.{IsInverse}
-use Rattle.obs_assign.specs.Pins.{MayPin, joins}
-use Rattle.obs_assign.specs.Spare.{IsSpare, IsSpareOf}
+use Rattle.obs_assign.specs.Assignment.{Assignment}
+use Rattle.obs_assign.specs.inner.Assignment.{ArePaired, HoldsPairs, frozen_branches, has_flag, is_frozen}
+use Rattle.obs_assign.specs.inner.Kept.{IsInverse}
+use Rattle.obs_assign.specs.inner.Pins.{MayPin, joins}
+use Rattle.obs_assign.specs.inner.Spare.{IsSpare, IsSpareOf}
 use Rattle.obs_assign.proofs.Slotted.{IsForestAt-over, branch_slot, slot_branch, slot_low, slots_apart}
 
 -- more branches join more

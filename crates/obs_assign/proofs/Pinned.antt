@@ -6,10 +6,11 @@ use Rattle.std.proofs.Math.Seq.{take-set-lt}
 use Rattle.obs_graph.specs.Positions.{AreBranches, IsForestAt}
 use Rattle.obs_graph.specs.Graph.{Graph}
 use Rattle.obs_matroid.specs.Lists.{In, other_than}
-use Rattle.obs_matroid.specs.Assignments.{branches, others, part}
-use Rattle.obs_matroid.specs.Closed.{HasFrozen}
-use Rattle.obs_matroid.specs.Exchange.{pinned}
-use Rattle.obs_matroid.specs.Slots.{pairs_from, pairs_of}
+use Rattle.obs_matroid.specs.Assignments.{branches}
+use Rattle.obs_matroid.specs.inner.Assignments.{others, part}
+use Rattle.obs_matroid.specs.inner.Closed.{HasFrozen}
+use Rattle.obs_matroid.specs.inner.Exchange.{pinned}
+use Rattle.obs_matroid.specs.inner.Slots.{pairs_from, pairs_of}
 use Rattle.obs_matroid.proofs.Lists.{clash, other_true}
 use Rattle.obs_matroid.proofs.Order.{independent_within}
 use Rattle.obs_matroid.proofs.Pairs.{In-branches, In-part, own}
@@ -21,11 +22,12 @@ use Rattle.obs_meter.specs.Spanned.{graph_matroid}
 use Rattle.obs_meter.proofs.Assigned.{forest_at-from_independent, independent-from_forest_at, to_matroid}
 use Rattle.obs_meter.proofs.Instance.{IsMatroid-graph}
 use Rattle.obs_meter.proofs.Live.{In-every}
-use Rattle.obs_assign.specs.Assignment.{Assignment, IsWhole, StandsOver, has_flag, is_frozen, pairs}
-use Rattle.obs_assign.specs.Kept.{Kept, seen, with_slots}
-use Rattle.obs_assign.specs.Pins.{IsPinnedAt, pinned_slots}
-use Rattle.obs_assign.specs.Spare.{IsSpare}
-use Rattle.obs_assign.specs.Still.{AreRetained}
+use Rattle.obs_assign.specs.Assignment.{Assignment}
+use Rattle.obs_assign.specs.inner.Assignment.{IsWhole, StandsOver, has_flag, is_frozen, pairs}
+use Rattle.obs_assign.specs.inner.Kept.{Kept, seen, with_slots}
+use Rattle.obs_assign.specs.inner.Pins.{IsPinnedAt, pinned_slots}
+use Rattle.obs_assign.specs.inner.Spare.{IsSpare}
+use Rattle.obs_assign.specs.inner.Still.{AreRetained}
 use Rattle.obs_assign.proofs.Slotted.{IsForestAt-over, item_slot, slot_item}
 use Rattle.obs_assign.proofs.Moving.{length-put_bare, length-put_paired}
 use Rattle.obs_assign.proofs.Pinning.{pinned-at, pinned-from, pinned-other}

@@ -6,9 +6,9 @@ use Rattle.std.proofs.lemmas.List.{get_or_past, set-set, set_comm}
 use Rattle.std.proofs.Math.Seq.{take-set-lt}
 use Rattle.obs_matroid.specs.Lists.{In}
 use Rattle.obs_matroid.specs.Assignments.{branches}
-use Rattle.obs_matroid.specs.Slots.{pairs_of}
-use Rattle.obs_assign.specs.Kept.{IsInverse}
-use Rattle.obs_assign.specs.Pins.{pinned_slots}
+use Rattle.obs_matroid.specs.inner.Slots.{pairs_of}
+use Rattle.obs_assign.specs.inner.Kept.{IsInverse}
+use Rattle.obs_assign.specs.inner.Pins.{pinned_slots}
 use Rattle.obs_assign.proofs.Slotted.{branch_slot, none_some, slot_branch, some_same}
 
 -- nothing was written

@@ -5,18 +5,18 @@ use Rattle.std.proofs.lemmas.List.{get_or-take, length-take}
 use Rattle.obs_graph.specs.declared.Ends.{Ends}
 use Rattle.obs_graph.specs.declared.search.Up.{Up}
 use Rattle.obs_graph.specs.Positions.{AreBranches, IsForestAt}
-use Rattle.obs_graph.specs.Search.{AreWaysUp, IsPart, IsRooted, IsWayUp, Reaches, State}
+use Rattle.obs_graph.specs.inner.Search.{AreWaysUp, IsPart, IsRooted, IsWayUp, Reaches, State}
 use Rattle.obs_graph.proofs.Present.{some_is_in}
 use Rattle.obs_matroid.specs.Assignments.{branches}
-use Rattle.obs_matroid.specs.Slots.{pairs_of}
+use Rattle.obs_matroid.specs.inner.Slots.{pairs_of}
 use Rattle.obs_matroid.proofs.Contained.{All-from_In, Contains-from_In, In-from_Contains}
 use Rattle.obs_meter.specs.declared.Touch.{Touch}
-use Rattle.obs_forest.specs.Forest.{taken}
+use Rattle.obs_forest.specs.inner.Forest.{taken}
 use Rattle.obs_forest.proofs.Fewer.{IsRooted-fewer}
 use Rattle.obs_forest.proofs.Held.{taken-at, taken-some}
-use Rattle.obs_assign.specs.Kept.{SlotsApart}
-use Rattle.obs_assign.specs.Retain.{AreChosen, touched_slot}
-use Rattle.obs_assign.specs.Still.{AreRetained}
+use Rattle.obs_assign.specs.inner.Kept.{SlotsApart}
+use Rattle.obs_assign.specs.inner.Retain.{AreChosen, touched_slot}
+use Rattle.obs_assign.specs.inner.Still.{AreRetained}
 use Rattle.obs_assign.proofs.Choosing.{up_low}
 use Rattle.obs_assign.proofs.Slotted.{branch_slot, slot_branch}
 use Rattle.obs_assign.proofs.Retaining.{AreRetained-made, IsForestAt-retained, touched_from}

@@ -6,9 +6,10 @@ use Rattle.std.proofs.lemmas.Bool.{cases_eq, ne_eqb}
 use Rattle.std.proofs.lemmas.List.Elements.{Contains-get_or}
 use Rattle.obs_graph.specs.declared.Ends.{Ends}
 use Rattle.obs_graph.specs.declared.search.Up.{Up}
-use Rattle.obs_graph.specs.Joined.{InRange, Leads, count_below, first_joined}
+use Rattle.obs_graph.specs.Joined.{Leads, count_below, first_joined}
+use Rattle.obs_graph.specs.inner.Joined.{InRange}
 use Rattle.obs_graph.specs.Positions.{AreBranches, IsForestAt, ends_of, present}
-use Rattle.obs_graph.specs.Search.{AreWaysUp, IsPart, IsWayUp, Reaches}
+use Rattle.obs_graph.specs.inner.Search.{AreWaysUp, IsPart, IsWayUp, Reaches}
 use Rattle.obs_graph.proofs.AtPositions.{IsForestAt-among, IsForestAt-by_rank, contains-ends_of, ends_of-contains, length-ends_of, some_of}
 use Rattle.obs_graph.proofs.Chains.{first_joined-contains}
 use Rattle.obs_graph.proofs.Forests.{rank-le-length}
@@ -16,7 +17,7 @@ use Rattle.obs_graph.proofs.Present.{AreBelow-part, branch_at, contains_present,
 use Rattle.obs_graph.proofs.Ranks.{is_moved, rank-le, rank_is}
 use Rattle.obs_matroid.specs.Lists.{In}
 use Rattle.obs_matroid.specs.Assignments.{branches}
-use Rattle.obs_matroid.specs.Slots.{pairs_of}
+use Rattle.obs_matroid.specs.inner.Slots.{pairs_of}
 use Rattle.obs_matroid.proofs.Contained.{All-from_In, Contains-from_In, In-from_Contains, pairs_from_IsDistinct}
 use Rattle.obs_matroid.proofs.Lists.{In-filter, In-filter_from}
 use Rattle.obs_matroid.proofs.Slots.{slot_at, slot_from}
@@ -26,11 +27,11 @@ use Rattle.obs_meter.specs.declared.Touch.TheVariants.{Nothing}
 use Rattle.obs_meter.specs.Touches.{touch_at}
 use Rattle.obs_meter.specs.Spanned.{joined_at}
 use Rattle.obs_meter.proofs.Touched.{In-from_any, touched-present}
-use Rattle.obs_forest.specs.Forest.{taken}
+use Rattle.obs_forest.specs.inner.Forest.{taken}
 use Rattle.obs_forest.proofs.Held.{part-taken, taken-at, taken-some}
-use Rattle.obs_assign.specs.Kept.{SlotsApart}
-use Rattle.obs_assign.specs.Retain.{AreChosen, touched_slot}
-use Rattle.obs_assign.specs.Still.{AreRetained, is_still}
+use Rattle.obs_assign.specs.inner.Kept.{SlotsApart}
+use Rattle.obs_assign.specs.inner.Retain.{AreChosen, touched_slot}
+use Rattle.obs_assign.specs.inner.Still.{AreRetained, is_still}
 use Rattle.obs_assign.proofs.Slotted.{branch_slot, distinct-from_apart, none_some, slot_branch, some_same}
 use Rattle.obs_assign.proofs.Paths.{joined-more, joins-from}
 use Rattle.obs_assign.proofs.Choosing.{up_low}

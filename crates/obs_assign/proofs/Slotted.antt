@@ -6,21 +6,21 @@ use Rattle.std.proofs.lemmas.List.{get_or_past}
 use Rattle.obs_graph.specs.declared.Ends.{Ends}
 use Rattle.obs_graph.specs.Positions.{IsForestAt, ends_of}
 use Rattle.obs_graph.specs.Joined.{IsForest}
-use Rattle.obs_graph.specs.Search.{IsPart}
+use Rattle.obs_graph.specs.inner.Search.{IsPart}
 use Rattle.obs_graph.proofs.AtPositions.{there_at, AllPairs-from_IsForestAt}
 use Rattle.obs_graph.proofs.Forests.{IsForest-from_Grows}
 use Rattle.std.specs.List.{cons_option}
 use Rattle.obs_matroid.specs.Lists.{In, IsDistinct}
 use Rattle.obs_matroid.specs.Assignments.{Pair, items, branches}
-use Rattle.obs_matroid.specs.Slots.{pairs_from, pairs_of}
+use Rattle.obs_matroid.specs.inner.Slots.{pairs_from, pairs_of}
 use Rattle.obs_matroid.proofs.Pairs.{In-branches, In-branches_from, In-items, In-items_from, same_pair_by_branch}
 use Rattle.obs_matroid.proofs.Contained.{Contains-from_In, In-from_Contains, In-from_All, All-from_In, IsDistinct-from_pairs}
 use Rattle.obs_matroid.proofs.Slots.{slot_from, slot_at, IsDistinct-slots}
-use Rattle.obs_forest.specs.Forest.{taken}
+use Rattle.obs_forest.specs.inner.Forest.{taken}
 use Rattle.obs_forest.proofs.Held.{taken-at}
 use Rattle.obs_forest.proofs.Keeping.{positions_in, held_exactly}
-use Rattle.obs_assign.specs.Assignment.{HoldsPairs}
-use Rattle.obs_assign.specs.Kept.{SlotsApart}
+use Rattle.obs_assign.specs.inner.Assignment.{HoldsPairs}
+use Rattle.obs_assign.specs.inner.Kept.{SlotsApart}
 
 pub some_same : (a b : ℕ) → Some a ≡ Some b → a ≡ b
 some_same a b e = cc

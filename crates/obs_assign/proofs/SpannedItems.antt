@@ -11,13 +11,14 @@ use Rattle.obs_matroid.specs.Lists.{In}
 use Rattle.obs_matroid.proofs.Bounds.{length-part_items, length-part_rank, length-parts}
 use Rattle.obs_matroid.proofs.Lists.{In-append_cases, In-filter, In-flat_map}
 use Rattle.obs_meter.specs.declared.Touch.{Touch}
-use Rattle.obs_meter.specs.Assignments.{IsAssignmentAt, bound_at}
+use Rattle.obs_meter.specs.Assignments.{IsAssignmentAt}
+use Rattle.obs_meter.specs.inner.Assignments.{bound_at}
 use Rattle.obs_meter.specs.Spanned.{graph_matroid}
 use Rattle.obs_meter.specs.Touches.{touch_at}
 use Rattle.obs_meter.proofs.Assigned.{to_matroid}
 use Rattle.obs_meter.proofs.Instance.{IsMatroid-graph}
 use Rattle.obs_meter.proofs.Touched.{In-from_any, any-from_In}
-use Rattle.obs_assign.specs.Pins.{joins}
+use Rattle.obs_assign.specs.inner.Pins.{joins}
 
 -- no assignment is longer than a bound, though such items take part
 pub spanned_bound_at : (n : ℕ) (ends : List (Option Ends)) (touches : List Touch) (M X : List ℕ) (J : ℕ → Bool) (A : List Pair)

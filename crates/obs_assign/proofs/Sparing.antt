@@ -2,8 +2,8 @@
 use Rattle.std.proofs.Common.{◌≡◌, ℕ, ◌<◌, Bool, true, false, Option, Some, None, inr, List, length, get_or, ap, ◌∙◌, arith}
 use Rattle.std.specs.Prelude.{MatchOption, Contains}
 use Rattle.std.proofs.lemmas.List.{get_or_default}
-use Rattle.obs_assign.specs.Assignment.{has_flag}
-use Rattle.obs_assign.specs.Spare.{IsSpareOf}
+use Rattle.obs_assign.specs.inner.Assignment.{has_flag}
+use Rattle.obs_assign.specs.inner.Spare.{IsSpareOf}
 
 -- a meter of one of the first i branches isn't frozen
 abbrev pub IsFree : List ℕ → List (Option ℕ) → List Bool → ℕ → ℕ → Type 0

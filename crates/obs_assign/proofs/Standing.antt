@@ -12,14 +12,16 @@ use Rattle.obs_matroid.proofs.Bounds.{length-branches, weak_bound}
 use Rattle.obs_matroid.proofs.Slots.{slot_from, IsDistinct-slots}
 use Rattle.obs_meter.specs.declared.Touch.{Touch}
 use Rattle.obs_meter.specs.Touches.{every_item, touch_at}
-use Rattle.obs_meter.specs.Assignments.{IsAssignmentAt, bound_at}
+use Rattle.obs_meter.specs.Assignments.{IsAssignmentAt}
+use Rattle.obs_meter.specs.inner.Assignments.{bound_at}
 use Rattle.obs_meter.specs.Spanned.{graph_matroid, rank_at}
 use Rattle.obs_meter.proofs.Assigned.{to_matroid, independent-from_forest_at}
 use Rattle.obs_meter.proofs.Instance.{IsMatroid-graph}
 use Rattle.obs_meter.proofs.Touched.{In-from_any, any-from_In}
 use Rattle.obs_meter.proofs.Live.{In-every}
-use Rattle.obs_assign.specs.Assignment.{Assignment, IsWhole, StandsOver, pairs}
-use Rattle.obs_assign.specs.Still.{AreRetained, is_still, still}
+use Rattle.obs_assign.specs.Assignment.{Assignment}
+use Rattle.obs_assign.specs.inner.Assignment.{IsWhole, StandsOver, pairs}
+use Rattle.obs_assign.specs.inner.Still.{AreRetained, is_still, still}
 use Rattle.obs_assign.proofs.Slotted.{IsForestAt-over, slot_low}
 
 -- an assignment that stands is one of the meters

@@ -7,10 +7,10 @@ use Rattle.obs_graph.specs.declared.Ends.{Ends}
 use Rattle.obs_graph.specs.Positions.{IsForestAt}
 use Rattle.obs_matroid.specs.Lists.{In}
 use Rattle.obs_matroid.specs.Assignments.{branches}
-use Rattle.obs_matroid.specs.Slots.{pairs_of}
+use Rattle.obs_matroid.specs.inner.Slots.{pairs_of}
 use Rattle.obs_matroid.proofs.Contained.{In-from_All}
 use Rattle.obs_assign.specs.declared.Move.{Move}
-use Rattle.obs_assign.specs.Moves.{moved}
+use Rattle.obs_assign.specs.inner.Moves.{moved}
 use Rattle.obs_assign.proofs.Afterwards.{Differ, head_apart, moved-kept, tail_apart}
 use Rattle.obs_assign.proofs.Changes.{forest_within}
 use Rattle.obs_assign.proofs.Pinning.{nothing}

@@ -8,13 +8,14 @@ use Rattle.obs_graph.specs.Positions.{IsForestAt}
 use Rattle.obs_graph.proofs.AtPositions.{IsForestAt-among}
 use Rattle.obs_matroid.specs.Lists.{In, IsDistinct}
 use Rattle.obs_matroid.specs.Assignments.{Pair, branches}
-use Rattle.obs_matroid.specs.Slots.{pairs_of}
+use Rattle.obs_matroid.specs.inner.Slots.{pairs_of}
 use Rattle.obs_matroid.proofs.Contained.{Contains-from_In, In-from_Contains, pairs_from_IsDistinct}
-use Rattle.obs_forest.specs.Forest.{Forest, StandsOver, taken}
+use Rattle.obs_forest.specs.Forest.{Forest}
+use Rattle.obs_forest.specs.inner.Forest.{StandsOver, taken}
 use Rattle.obs_forest.proofs.Refilled.{StandsOver-taken}
-use Rattle.obs_assign.specs.Assignment.{HoldsPairs}
-use Rattle.obs_assign.specs.Kept.{IsInverse, IsKept, IsListed, IsOver, Kept, with_slots}
-use Rattle.obs_assign.specs.Pins.{pinned_slots}
+use Rattle.obs_assign.specs.inner.Assignment.{HoldsPairs}
+use Rattle.obs_assign.specs.inner.Kept.{IsInverse, IsKept, IsListed, IsOver, Kept, with_slots}
+use Rattle.obs_assign.specs.inner.Pins.{pinned_slots}
 use Rattle.obs_assign.proofs.Changes.{forest_dropped}
 use Rattle.obs_assign.proofs.Handing.{apart-inverse, count-same}
 use Rattle.obs_assign.proofs.Keeping.{IsForestAt-empty, empty_pairs, empty_slot}

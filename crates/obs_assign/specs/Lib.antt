@@ -1,7 +1,2 @@
 pub mod Assignment
-pub mod Moves
-pub mod Pins
-pub mod Still
-pub mod Kept
-pub mod Spare
-pub mod Retain
+pub mod inner

@@ -1,13 +1,13 @@
 // The kept assignment.
 ghost use Rattle.std.specs.Prelude.{◌≡◌, ◌≢◌, ◌+◌, ◌<◌, ◌≤◌, ℕ, Some, None, List, [], length, replicate, false, IfOk, IfSome, IfNone, slice_set};
-ghost use Rattle.obs_matroid.specs.Slots.{pairs_of};
+ghost use Rattle.obs_matroid.specs.inner.Slots.{pairs_of};
 ghost use Rattle.obs_meter.specs.declared.Touch.{Touch};
 ghost use Rattle.obs_meter.specs.Assignments.{IsAssignmentAt};
 ghost use Rattle.obs_meter.specs.Touches.{every_item};
-ghost use Rattle.obs_forest.specs.Forest.{StandsOver as ForestStandsOver};
-ghost use Rattle.obs_assign.specs.Assignment.{Fits, HasRoomOf, IsWhole, StandsOver, branch_at, is_frozen, pairs};
-ghost use Rattle.obs_assign.specs.Moves.{ArePath, moved, turned};
-ghost use Rattle.obs_assign.specs.Still.{AreRetained};
+ghost use Rattle.obs_forest.specs.inner.Forest.{StandsOver as ForestStandsOver};
+ghost use Rattle.obs_assign.specs.inner.Assignment.{Fits, HasRoomOf, IsWhole, StandsOver, branch_at, is_frozen, pairs};
+ghost use Rattle.obs_assign.specs.inner.Moves.{ArePath, moved, turned};
+ghost use Rattle.obs_assign.specs.inner.Still.{AreRetained};
 
 mod pins;
 
@@ -44,9 +44,9 @@ pub struct Assignment {
 
 impl Model for Assignment {
     ghost use Rattle.std.specs.Prelude.{length};
-    ghost use Rattle.obs_graph.specs.Search.{room_of};
+    ghost use Rattle.obs_graph.specs.inner.Search.{room_of};
     ghost use Rattle.obs_assign.specs.Assignment.{Assignment};
-    ghost use Rattle.obs_assign.specs.Kept.{seen, HasArrays};
+    ghost use Rattle.obs_assign.specs.inner.Kept.{seen, HasArrays};
 
     ghost Value = { Assignment };
 

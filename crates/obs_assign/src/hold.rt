@@ -1,11 +1,11 @@
 // The pairs, listed by their branches, and held in a forest again.
 ghost use Rattle.std.specs.Prelude.{◌≡◌, ◌<◌, ◌≤◌, ◌^◌, ℕ, Some, None, false, length, replicate, slice_index_or, take};
 ghost use Rattle.obs_graph.specs.Positions.{IsForestAt};
-ghost use Rattle.obs_graph.specs.Search.{room_of, IsRooted};
+ghost use Rattle.obs_graph.specs.inner.Search.{room_of, IsRooted};
 ghost use Rattle.obs_matroid.specs.Assignments.{branches};
-ghost use Rattle.obs_matroid.specs.Slots.{pairs_of};
-ghost use Rattle.obs_forest.specs.Forest.{taken};
-ghost use Rattle.obs_assign.specs.Kept.{IsInverse, IsListed, SlotsApart};
+ghost use Rattle.obs_matroid.specs.inner.Slots.{pairs_of};
+ghost use Rattle.obs_forest.specs.inner.Forest.{taken};
+ghost use Rattle.obs_assign.specs.inner.Kept.{IsInverse, IsListed, SlotsApart};
 
 use obs_forest::Forest;
 use obs_graph::Graph;

@@ -2,12 +2,12 @@
 ghost use Rattle.std.specs.Prelude.{◌≡◌, ◌<◌, ◌≤◌, ℕ, Some, None, [], length, replicate, IfOk, slice_index_or, slice_set};
 ghost use Rattle.obs_graph.specs.Graph.{Graph};
 ghost use Rattle.obs_graph.specs.Positions.{IsForestAt};
-ghost use Rattle.obs_graph.specs.Search.{room_of};
+ghost use Rattle.obs_graph.specs.inner.Search.{room_of};
 ghost use Rattle.obs_matroid.specs.Assignments.{branches};
-ghost use Rattle.obs_matroid.specs.Slots.{pairs_of};
-ghost use Rattle.obs_assign.specs.Kept.{IsInverse, IsOver, with_slots};
-ghost use Rattle.obs_assign.specs.Pins.{pinned_slots};
-ghost use Rattle.obs_assign.specs.Still.{AreRetained};
+ghost use Rattle.obs_matroid.specs.inner.Slots.{pairs_of};
+ghost use Rattle.obs_assign.specs.inner.Kept.{IsInverse, IsOver, with_slots};
+ghost use Rattle.obs_assign.specs.inner.Pins.{pinned_slots};
+ghost use Rattle.obs_assign.specs.inner.Still.{AreRetained};
 
 use crate::Move;
 use crate::hold::empty;
@@ -42,7 +42,7 @@ pub struct Kept {
 
 impl Model for Kept {
     ghost use Rattle.std.specs.Prelude.{length, take};
-    ghost use Rattle.obs_assign.specs.Kept.{Kept, IsKept};
+    ghost use Rattle.obs_assign.specs.inner.Kept.{Kept, IsKept};
 
     ghost Value = { Kept };
 

@@ -1,22 +1,26 @@
 // The laws of kept assignments.
 ghost use Rattle.std.specs.Prelude.{◌≡◌, ◌≢◌, ◌+◌, ◌++◌, ◌<◌, ◌≤◌, ◌↔◌, ℕ, Bool, false, true, Option, Some, None, List, flat_map, length, slice_index_or, slice_set};
 ghost use Rattle.obs_graph.specs.declared.Ends.{Ends};
-ghost use Rattle.obs_graph.specs.Joined.{AreMergedBy, InRange, IsMerging, is_joined, rank, renamed};
+ghost use Rattle.obs_graph.specs.Joined.{is_joined, rank};
+ghost use Rattle.obs_graph.specs.inner.Joined.{AreMergedBy, InRange, IsMerging, renamed};
 ghost use Rattle.obs_graph.specs.Positions.{AreBranches, IsForestAt};
 ghost use Rattle.obs_graph.specs.Graph.{Graph};
-ghost use Rattle.obs_matroid.specs.Assignments.{Pair, branches, others};
+ghost use Rattle.obs_matroid.specs.Assignments.{Pair, branches};
+ghost use Rattle.obs_matroid.specs.inner.Assignments.{others};
 ghost use Rattle.obs_matroid.specs.Bounds.{inside};
 ghost use Rattle.obs_matroid.specs.Lists.{In};
-ghost use Rattle.obs_matroid.specs.Slots.{pairs_of};
+ghost use Rattle.obs_matroid.specs.inner.Slots.{pairs_of};
 ghost use Rattle.obs_meter.specs.declared.Touch.{Touch};
-ghost use Rattle.obs_meter.specs.Assignments.{IsAssignmentAt, bound_at};
+ghost use Rattle.obs_meter.specs.Assignments.{IsAssignmentAt};
+ghost use Rattle.obs_meter.specs.inner.Assignments.{bound_at};
 ghost use Rattle.obs_meter.specs.Spanned.{rank_at};
 ghost use Rattle.obs_meter.specs.Touches.{every_item, touch_at};
 ghost use Rattle.obs_assign.specs.declared.Move.{Move};
-ghost use Rattle.obs_assign.specs.Assignment.{Assignment, IsWhole, StandsOver, branch_at, pairs};
-ghost use Rattle.obs_assign.specs.Moves.{ArePath, moved};
-ghost use Rattle.obs_assign.specs.Pins.{IsPinnedAt, joins};
-ghost use Rattle.obs_assign.specs.Still.{AreRetained, still};
+ghost use Rattle.obs_assign.specs.Assignment.{Assignment};
+ghost use Rattle.obs_assign.specs.inner.Assignment.{IsWhole, StandsOver, branch_at, pairs};
+ghost use Rattle.obs_assign.specs.inner.Moves.{ArePath, moved};
+ghost use Rattle.obs_assign.specs.inner.Pins.{IsPinnedAt, joins};
+ghost use Rattle.obs_assign.specs.inner.Still.{AreRetained, still};
 
 /// No assignment is longer than a bound: the rank of what some items touch, and one for each other item. So it is, too,
 /// where items more take part, each of whose touched branches has its ends joined by what the first ones touch.

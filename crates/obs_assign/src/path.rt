@@ -2,10 +2,10 @@
 ghost use Rattle.std.specs.Prelude.{◌≡◌, ◌≢◌, ◌<◌, All, AllPairs, IsTrue, None, Some, length, slice_index_or};
 ghost use Rattle.obs_graph.specs.Positions.{IsForestAt};
 ghost use Rattle.obs_matroid.specs.Assignments.{branches};
-ghost use Rattle.obs_matroid.specs.Slots.{pairs_of};
+ghost use Rattle.obs_matroid.specs.inner.Slots.{pairs_of};
 ghost use Rattle.obs_assign.specs.declared.Move.{Move};
-ghost use Rattle.obs_assign.specs.Kept.{IsOver, with_slots};
-ghost use Rattle.obs_assign.specs.Moves.{HandsOn, moved};
+ghost use Rattle.obs_assign.specs.inner.Kept.{IsOver, with_slots};
+ghost use Rattle.obs_assign.specs.inner.Moves.{HandsOn, moved};
 
 use crate::Move;
 use crate::kept::Kept;

@@ -1,13 +1,14 @@
 // Which pair may be given up for another one, and pins.
 ghost use Rattle.std.specs.Prelude.{◌≡◌, ◌≢◌, ◌<◌, ◌≤◌, ℕ, true, false, All, Contains, IsSome, None, Some, IsTrue, MatchOption, length, slice_index_or};
 ghost use Rattle.obs_graph.specs.Positions.{IsForestAt};
-ghost use Rattle.obs_matroid.specs.Assignments.{branches, part};
-ghost use Rattle.obs_matroid.specs.Slots.{pairs_of};
-ghost use Rattle.obs_forest.specs.Forest.{StandsOver};
-ghost use Rattle.obs_assign.specs.Assignment.{ArePaired, has_flag};
-ghost use Rattle.obs_assign.specs.Kept.{IsOver, with_slots};
-ghost use Rattle.obs_assign.specs.Pins.{joins, pinned_slots};
-ghost use Rattle.obs_assign.specs.Spare.{IsSpare, IsSpareOf};
+ghost use Rattle.obs_matroid.specs.Assignments.{branches};
+ghost use Rattle.obs_matroid.specs.inner.Assignments.{part};
+ghost use Rattle.obs_matroid.specs.inner.Slots.{pairs_of};
+ghost use Rattle.obs_forest.specs.inner.Forest.{StandsOver};
+ghost use Rattle.obs_assign.specs.inner.Assignment.{ArePaired, has_flag};
+ghost use Rattle.obs_assign.specs.inner.Kept.{IsOver, with_slots};
+ghost use Rattle.obs_assign.specs.inner.Pins.{joins, pinned_slots};
+ghost use Rattle.obs_assign.specs.inner.Spare.{IsSpare, IsSpareOf};
 
 use crate::Move;
 use crate::kept::Kept;

@@ -1,6 +1,6 @@
 // A count of steps that takes no bytes.
 ghost use Rattle.std.specs.Prelude.{◌≡◌, ◌+◌, ◌<◌};
-ghost use Rattle.obs_assign.specs.Moves.{turned};
+ghost use Rattle.obs_assign.specs.inner.Moves.{turned};
 
 use std::marker::Model;
 use std::sync::ledger::{Blank, Book, Ledger, Share};

@@ -9,13 +9,14 @@ use Rattle.std.specs.List.{AllByRecursion, IsDistinct, list_all, list_any, posit
 use Rattle.std.specs.Str.{bytes_eq}
 use Rattle.obs_text.specs.Names.{is_name, is_name_byte}
 use Rattle.obs_text.proofs.DecimalLemmas.{digits-name, length-decimal, numerals, same_name}
-use Rattle.obs_case.specs.Adds.{Refuses, name_fault}
+use Rattle.obs_case.specs.inner.Adds.{Refuses, name_fault}
 use Rattle.obs_case.specs.Tables.{has_name, node_names, place_of}
 use Rattle.obs_case.specs.declared.rows.Branch.{Branch}
 use Rattle.obs_case.specs.declared.rows.Node.{Node}
 use Rattle.obs_case.specs.declared.table.AddFault.{AddFault}
 use Rattle.obs_case.specs.declared.table.AddFault.TheVariants.{NameTwice, UnknownNode, UnknownPlace, TooMany, NoMemory}
-use Rattle.obs_bus_branch.specs.Buses.{AreBusesBelow, AreNamed, Bus, branch_name, has_bus, node_of_bus, place_of_bus, tables_of_rows}
+use Rattle.obs_bus_branch.specs.Buses.{Bus, branch_name, has_bus, node_of_bus, place_of_bus, tables_of_rows}
+use Rattle.obs_bus_branch.specs.inner.Buses.{AreBusesBelow, AreNamed}
 
 short_name : (bytes : List ℕ) → 0 < length bytes → length bytes ≤ 64 → list_all is_name_byte bytes ≡ true → is_name bytes ≡ true
 short_name bytes some few all =

@@ -1,6 +1,7 @@
 -- Rows that are read one after the other, and the fault that ends the reading.
 use Rattle.std.proofs.Common.{◌≡◌, ℕ, suc, ◌+◌, ◌<◌, ◌≤◌, List, [], ◌∷◌, ◌++◌, length, Result, Ok, Err, MatchResult, refl, sym, ap, ◌∙◌, subst, append_assoc, append-nil, length-append, arith}
-use Rattle.obs_bus_branch.specs.Rows.{AreRows, HasRowFault, on_ok, read_rows}
+use Rattle.obs_bus_branch.specs.Rows.{on_ok, read_rows}
+use Rattle.obs_bus_branch.specs.inner.Rows.{AreRows, HasRowFault}
 
 -- one row more
 one_longer : {R : Type 0} (earlier : List R) (r : R) → length (earlier ++ r ∷ []) + 1 ≡ suc (length earlier + 1)

@@ -6,11 +6,12 @@ use Rattle.std.proofs.lemmas.Bool.{cases_Bool}
 use Rattle.std.proofs.lemmas.List.{take-append-drop}
 use Rattle.std.proofs.lemmas.List.Folds.{list_any-append, concat-append}
 use Rattle.std.specs.List.{after_first, before_first, concat, list_any, position_or_len}
-use Rattle.obs_text.specs.Lines.{after_line, content, ended_lines, lines_of}
+use Rattle.obs_text.specs.Lines.{content, ended_lines, lines_of}
+use Rattle.obs_text.specs.inner.Lines.{after_line}
 use Rattle.obs_text.specs.Limits.{most_file_bytes}
 use Rattle.obs_text.proofs.LineLemmas.{ended_lines-first, feed_at}
 use Rattle.obs_text.proofs.LineLaws.{joined, length-ended_lines}
-use Rattle.obs_bus_branch.specs.Search.{IsFirstLine}
+use Rattle.obs_bus_branch.specs.inner.Search.{IsFirstLine}
 
 -- the first line of bytes: with its end, and without it
 pub record IsNextLine (all line rest ended : List ℕ) : Type 0 where

@@ -6,7 +6,8 @@ use Rattle.obs_case.specs.Tables.{IsValid, has_name, most_rows}
 use Rattle.obs_case.specs.declared.rows.Branch.{Branch}
 use Rattle.obs_case.proofs.NameLemmas.{place-there}
 use Rattle.obs_case.proofs.ValidLemmas.{valid-branches, valid-nodes}
-use Rattle.obs_bus_branch.specs.Buses.{AreBusesBelow, AreNamed, Bus, IsEnd, branch_name, has_bus, node_of_bus, tables_of_rows}
+use Rattle.obs_bus_branch.specs.Buses.{Bus, branch_name, has_bus, node_of_bus, tables_of_rows}
+use Rattle.obs_bus_branch.specs.inner.Buses.{AreBusesBelow, AreNamed, IsEnd}
 use Rattle.obs_bus_branch.proofs.NumberLemmas.{AreBuses-push, AreNamed-push, has_name-branch, has_name-bus, is_name-branch, is_name-decimal}
 
 -- ---- buses

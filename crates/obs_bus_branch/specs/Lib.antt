@@ -1,3 +1,3 @@
 pub mod Buses
 pub mod Rows
-pub mod Search
+pub mod inner

@@ -8,7 +8,8 @@ use Rattle.obs_files.specs.Codes.{code_of}
 use Rattle.obs_files.specs.Words.{form_of}
 use Rattle.obs_io.specs.Bytes.{WrotePart}
 use Rattle.obs_engine.specs.Ending.{Answers, Ends}
-use Rattle.obs_engine.specs.Replies.{EndsWith, Reply}
+use Rattle.obs_engine.specs.Replies.{Reply}
+use Rattle.obs_engine.specs.inner.Replies.{EndsWith}
 use Rattle.obs_engine.specs.Stated.{IsStated, Told}
 use Rattle.obs_c.specs.Calls.{IsAnswered, IsGiven}
 

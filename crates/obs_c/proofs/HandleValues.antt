@@ -22,7 +22,7 @@ use Rattle.std.specs.contracts.alloc.Global.{the_row as Z, the_field}
 use Rattle.std.specs.contracts.impls.GlobalAllocator.TheImpl.{ghosts}
 use Rattle.std.proofs.alloc.Global.TheLaws.{the_row_laws as LZ}
 use Rattle.obs_c.proofs.LooseValues.{both}
-use Rattle.obs_c.specs.Kept.{keeps}
+use Rattle.obs_c.specs.inner.Kept.{keeps}
 use Rattle.obs_edit.specs.Sessions.{Session}
 use Rattle.obs_c.specs.contracts.handle.Handle as handle
 

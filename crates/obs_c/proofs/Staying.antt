@@ -10,8 +10,9 @@ use Rattle.obs_files.specs.Codes.{code_of}
 use Rattle.obs_files.specs.Limits.{Limits}
 use Rattle.obs_files.specs.Outside.{AreFiles}
 use Rattle.obs_engine.specs.Lines.{line_case}
-use Rattle.obs_engine.specs.Replies.{EndsWith}
-use Rattle.obs_engine.specs.Stays.{Begins, IsNotBegun, line_reply}
+use Rattle.obs_engine.specs.inner.Replies.{EndsWith}
+use Rattle.obs_engine.specs.Stays.{IsNotBegun, line_reply}
+use Rattle.obs_engine.specs.inner.Stays.{Begins}
 use Rattle.obs_files.specs.Words.{form_of}
 use Rattle.obs_c.specs.Blocks.{AreLengths, IsCall, malformed, words_in}
 use Rattle.obs_c.specs.Stays.{IsLineAnswered, IsBeginning, out_of_turn}

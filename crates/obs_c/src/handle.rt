@@ -1,6 +1,6 @@
 // A box as a pointer that C may hold, or none.
 ghost use Rattle.std.specs.Prelude.{◌≡◌, IsSome, None, Option, Some};
-ghost use Rattle.obs_c.specs.Kept.{keeps};
+ghost use Rattle.obs_c.specs.inner.Kept.{keeps};
 ghost use Rattle.obs_edit.specs.Sessions.{Session};
 
 use crate::loose::Loose;

@@ -1,7 +1,7 @@
 // The limits of a call.
 ghost use Rattle.std.specs.Prelude.{◌≡◌, ◌≤◌};
 ghost use Rattle.obs_c.specs.Calls.{limits_for};
-ghost use Rattle.obs_io.specs.Limits.{most_place};
+ghost use Rattle.obs_io.specs.inner.Limits.{most_place};
 
 use obs_engine::Limits;
 

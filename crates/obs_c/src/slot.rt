@@ -1,6 +1,6 @@
 // What C holds.
 ghost use Rattle.std.specs.Prelude.{◌≡◌, MatchOption, None, Some};
-ghost use Rattle.obs_c.specs.Kept.{is_kept};
+ghost use Rattle.obs_c.specs.inner.Kept.{is_kept};
 
 use crate::handle::Handle;
 use obs_edit::Session;

@@ -1,12 +1,12 @@
 // The version.
 ghost use Rattle.std.specs.Prelude.{◌≡◌};
-ghost use Rattle.obs_c.specs.Version.{major, minor, patch, version_number};
+ghost use Rattle.obs_c.specs.inner.Version.{major, minor, patch, version_number};
 
 const MAJOR: u32 = 0;
 
 const MINOR: u32 = 8;
 
-const PATCH: u32 = 2;
+const PATCH: u32 = 3;
 
 /// The version as one number: 1,000,000 times its first number, 1,000 times its second, and its third.
 #[unsafe(no_mangle)]

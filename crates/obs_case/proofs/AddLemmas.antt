@@ -10,7 +10,7 @@ use Rattle.obs_case.specs.declared.rows.Branch.{Branch}
 use Rattle.obs_case.specs.declared.rows.Kind.{Kind}
 use Rattle.obs_case.specs.declared.rows.Kind.TheVariants.{Flow, Injection, Zero, Angle}
 use Rattle.obs_case.specs.declared.rows.Node.{Node}
-use Rattle.obs_case.specs.Adds.{Refuses, first_fault, name_fault, place_fault}
+use Rattle.obs_case.specs.inner.Adds.{Refuses, first_fault, name_fault, place_fault}
 use Rattle.obs_case.specs.Tables.{Tables, has_name, place_names, place_of, places}
 use Rattle.obs_case.proofs.NameLemmas.{place-absent, place-there}
 

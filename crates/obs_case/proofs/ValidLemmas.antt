@@ -11,8 +11,10 @@ use Rattle.obs_case.specs.declared.rows.Meter.{Meter}
 use Rattle.obs_case.specs.declared.rows.Node.{Node}
 use Rattle.obs_case.specs.declared.rows.Switch.{Switch}
 use Rattle.obs_case.specs.declared.table.AddFault.{AddFault}
-use Rattle.obs_case.specs.Flags.{with_absolute, with_branch_inservice, with_closed, with_meter_inservice}
-use Rattle.obs_case.specs.Tables.{IsNamed, IsValid, Tables, branch_names, candidate_names, has_name, meter_names, most_price, most_rows, no_rows, no_rows_within, node_names, places, switch_names, usual_rows}
+use Rattle.obs_case.specs.Flags.{with_branch_inservice, with_closed, with_meter_inservice}
+use Rattle.obs_case.specs.inner.Flags.{with_absolute}
+use Rattle.obs_case.specs.Tables.{IsNamed, IsValid, Tables, branch_names, candidate_names, has_name, meter_names, most_price, most_rows, no_rows_within, node_names, places, switch_names, usual_rows}
+use Rattle.obs_case.specs.inner.Tables.{no_rows}
 use Rattle.obs_case.proofs.NameLemmas.{named-none, named-push}
 use Rattle.obs_case.proofs.RowLemmas.{All-changed, map-changed, length-changed}
 

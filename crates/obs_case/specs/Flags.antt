@@ -2,7 +2,6 @@
 use Rattle.std.specs.Prelude.{ℕ, zero, suc, Bool, List, [], ◌∷◌}
 use Rattle.obs_case.specs.declared.rows.Branch.{Branch}
 use Rattle.obs_case.specs.declared.rows.Meter.{Meter}
-use Rattle.obs_case.specs.declared.rows.Node.{Node}
 use Rattle.obs_case.specs.declared.rows.Switch.{Switch}
 use Rattle.obs_case.specs.Tables.{Tables}
 
@@ -11,10 +10,6 @@ unfoldable pub changed_at : {A : Type 0} → (A → A) → ℕ → List A → Li
 changed_at change i [] = []
 changed_at change zero (x ∷ xs) = change x ∷ xs
 changed_at change (suc i) (x ∷ xs) = x ∷ changed_at change i xs
-
--- a node marked absolute, or not
-abbrev pub with_absolute : Tables → ℕ → Bool → Tables
-with_absolute t at absolute = record t { nodes = changed_at (λ (row : Node). record row { absolute = absolute }) at t.nodes }
 
 -- a switch opened or closed
 abbrev pub with_closed : Tables → ℕ → Bool → Tables

@@ -1,5 +1,5 @@
 pub mod Adds
-pub mod Case
 pub mod Flags
 pub mod Items
 pub mod Tables
+pub mod inner

@@ -32,10 +32,6 @@ usual_rows = 20000
 abbrev pub no_rows_within : ℕ → Tables
 no_rows_within most = record { nodes = []; switches = []; branches = []; meters = []; candidates = []; most = most }
 
--- the same under the usual limit
-abbrev pub no_rows : Tables
-no_rows = no_rows_within usual_rows
-
 -- the names of each table's rows, in their order
 abbrev pub node_names : Tables → List (List ℕ)
 node_names t = map (λ (row : Node). row.name) t.nodes

@@ -1,10 +1,13 @@
 // The tables together.
 ghost use Rattle.std.specs.Prelude.{◌≡◌, ◌≢◌, ◌<◌, ◌≤◌, length, None, Err, IsTrue, IfOk, IfErr, OnOk, OnErr};
 ghost use Rattle.obs_text.specs.Names.{is_name};
-ghost use Rattle.obs_case.specs.Adds.{Refuses, branch_fault, branch_of, candidate_fault, candidate_of, meter_fault, meter_of, node_fault, node_of, place_fault, switch_fault, switch_of, with_branch, with_candidate, with_meter, with_node, with_switch};
-ghost use Rattle.obs_case.specs.Flags.{with_absolute, with_branch_inservice, with_closed, with_meter_inservice};
+ghost use Rattle.obs_case.specs.Adds.{branch_of, candidate_of, meter_of, switch_of, with_branch, with_candidate, with_meter, with_node, with_switch};
+ghost use Rattle.obs_case.specs.inner.Adds.{Refuses, branch_fault, candidate_fault, meter_fault, node_fault, node_of, place_fault, switch_fault};
+ghost use Rattle.obs_case.specs.Flags.{with_branch_inservice, with_closed, with_meter_inservice};
+ghost use Rattle.obs_case.specs.inner.Flags.{with_absolute};
 ghost use Rattle.obs_case.specs.Items.{is_angle, is_angle_kind};
-ghost use Rattle.obs_case.specs.Tables.{IsValid, branch_names, candidate_names, meter_names, most_price, most_rows, no_rows, no_rows_within, node_names, place_names, place_of, position_of, switch_names};
+ghost use Rattle.obs_case.specs.Tables.{IsValid, branch_names, candidate_names, meter_names, most_price, most_rows, no_rows_within, node_names, place_names, place_of, position_of, switch_names};
+ghost use Rattle.obs_case.specs.inner.Tables.{no_rows};
 
 use crate::limits::USUAL_ROWS;
 use crate::name::Name;
@@ -31,7 +34,7 @@ impl Model for Case {
 
     ghost Value = { Tables };
 
-    ghost use Rattle.obs_case.specs.Case.{tables_of};
+    ghost use Rattle.obs_case.specs.inner.Case.{tables_of};
 
     ghost view = { tables_of };
 

@@ -4,7 +4,7 @@ ghost use Rattle.std.specs.List.{list_all};
 ghost use Rattle.std.specs.Set.{swap_key};
 ghost use Rattle.std.specs.Str.{bytes_eq};
 ghost use Rattle.obs_text.specs.Names.{is_name};
-ghost use Rattle.obs_case.specs.Adds.{Refuses, add_fault_code, first_fault, name_fault};
+ghost use Rattle.obs_case.specs.inner.Adds.{Refuses, add_fault_code, first_fault, name_fault};
 ghost use Rattle.obs_case.specs.Tables.{has_name, most_rows, place_of, position_of};
 
 use crate::name::{LONGEST, Name};

@@ -4,7 +4,7 @@ use Rattle.obs_case.specs.Tables.{IsValid, Tables}
 use Rattle.obs_case_csv.specs.declared.faults.Table.{Table}
 use Rattle.obs_case_csv.specs.declared.faults.Table.TheVariants.{Meters, Candidates}
 use Rattle.obs_case_csv.specs.declared.faults.TableFault.{TableFault}
-use Rattle.obs_case_csv.specs.OneTable.{HasCandidates, IsTableOf}
+use Rattle.obs_case_csv.specs.inner.OneTable.{HasCandidates, IsTableOf}
 use Rattle.obs_case_csv.specs.Read.{fault_in, rows_in, tables_after, tables_or, then_read, then_read_given}
 use Rattle.obs_case_csv.specs.Rows.{names_in}
 use Rattle.obs_case_csv.proofs.TableLemmas.{TableIsRead-holds}

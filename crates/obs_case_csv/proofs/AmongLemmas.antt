@@ -9,9 +9,9 @@ use Rattle.obs_case_csv.specs.declared.faults.Table.{Table}
 use Rattle.obs_case_csv.specs.declared.faults.Table.TheVariants.{Nodes, Switches, Branches, Meters, Candidates}
 use Rattle.obs_case_csv.specs.declared.faults.TableFault.{TableFault}
 use Rattle.obs_case_csv.specs.Fields.{Record}
-use Rattle.obs_case_csv.specs.IsFault.{IsFault, IsFaultAmong, NotAfter, NotAfterAmong, place_of_table}
-use Rattle.obs_case_csv.specs.Laws.{FirstFaultBehindFile, FirstFaultOfCase, FirstFaultOfCaseWithin, FirstFaultOfSwitching, FirstFaultOfSwitchingWithin}
-use Rattle.obs_case_csv.specs.OneTable.{HasRows, IsTableOf}
+use Rattle.obs_case_csv.specs.inner.IsFault.{IsFault, IsFaultAmong, NotAfter, NotAfterAmong, place_of_table}
+use Rattle.obs_case_csv.specs.inner.Laws.{FirstFaultBehindFile, FirstFaultOfCase, FirstFaultOfCaseWithin, FirstFaultOfSwitching, FirstFaultOfSwitchingWithin}
+use Rattle.obs_case_csv.specs.inner.OneTable.{HasRows, IsTableOf}
 use Rattle.obs_case_csv.specs.Read.{fault_in, rows_in, tables_or, then_read}
 use Rattle.obs_case_csv.specs.Rows.{names_in}
 use Rattle.obs_case_csv.proofs.FirstLemmas.{FirstFault-holds}

@@ -6,8 +6,8 @@ use Rattle.obs_case_csv.specs.declared.faults.RowFault.{RowFault}
 use Rattle.obs_case_csv.specs.declared.faults.Table.{Table}
 use Rattle.obs_case_csv.specs.declared.faults.TableFault.{TableFault}
 use Rattle.obs_case_csv.specs.Fields.{Record, header_fault}
-use Rattle.obs_case_csv.specs.Laws.{RowsBeforeFault, RowsBeforeSome}
-use Rattle.obs_case_csv.specs.OneTable.{HasRows, HasRowsBefore}
+use Rattle.obs_case_csv.specs.inner.Laws.{RowsBeforeFault, RowsBeforeSome}
+use Rattle.obs_case_csv.specs.inner.OneTable.{HasRows, HasRowsBefore}
 use Rattle.obs_case_csv.specs.Read.{fault_of_records, first_fault, rows_before, rows_of_records, table_records}
 use Rattle.obs_case_csv.specs.Rows.{names_in}
 use Rattle.obs_case_csv.proofs.FirstLemmas.{first-is, next_is}

@@ -4,7 +4,7 @@ use Rattle.csv.specs.Records.{field_at}
 use Rattle.obs_case.specs.Tables.{Tables, place_of}
 use Rattle.obs_case_csv.specs.declared.faults.Table.{Table}
 use Rattle.obs_case_csv.specs.declared.faults.Table.TheVariants.{Nodes, Switches, Branches, Meters, Candidates}
-use Rattle.obs_case_csv.specs.Columns.{fourth_column, further_place, own_column, second_column, third_column, with_ordered}
+use Rattle.obs_case_csv.specs.inner.Columns.{fourth_column, further_place, own_column, second_column, third_column, with_ordered}
 use Rattle.obs_case_csv.specs.Fields.{Record, field_of, field_or_0}
 use Rattle.obs_case_csv.specs.Rows.{with_fields}
 

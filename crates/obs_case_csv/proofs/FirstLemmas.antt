@@ -7,9 +7,9 @@ use Rattle.obs_case_csv.specs.declared.faults.Table.{Table}
 use Rattle.obs_case_csv.specs.declared.faults.TableFault.{TableFault}
 use Rattle.obs_case_csv.specs.Faults.{fault_code}
 use Rattle.obs_case_csv.specs.Fields.{Record, header_fault}
-use Rattle.obs_case_csv.specs.IsFault.{HasRowFault, HeaderHas, NotAfter}
-use Rattle.obs_case_csv.specs.Laws.{FirstFault}
-use Rattle.obs_case_csv.specs.OneTable.{HasRows}
+use Rattle.obs_case_csv.specs.inner.IsFault.{HasRowFault, HeaderHas, NotAfter}
+use Rattle.obs_case_csv.specs.inner.Laws.{FirstFault}
+use Rattle.obs_case_csv.specs.inner.OneTable.{HasRows}
 use Rattle.obs_case_csv.specs.Read.{fault_of_records, first_fault, rows_before, table_records}
 use Rattle.obs_case_csv.specs.Rows.{names_in, next_row, row_fault, with_record}
 use Rattle.obs_case_csv.proofs.ReadLemmas.{faulty_header, first_fault-append, first_fault-end, first_fault-here, first_fault-next, next_row-with_record, row_fault-none, rows_before-end, rows_before-next, with_header}

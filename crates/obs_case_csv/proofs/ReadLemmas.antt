@@ -8,11 +8,12 @@ use Rattle.obs_case_csv.specs.declared.faults.Table.{Table}
 use Rattle.obs_case_csv.specs.declared.faults.Table.TheVariants.{Nodes, Switches, Branches, Meters, Candidates}
 use Rattle.obs_case_csv.specs.declared.faults.TableEnd.{TableEnd}
 use Rattle.obs_case_csv.specs.declared.faults.TableEnd.TheVariants.{Fault, NoMemory}
-use Rattle.obs_case_csv.specs.Columns.{ArePlaces}
+use Rattle.obs_case_csv.specs.inner.Columns.{ArePlaces}
 use Rattle.obs_case_csv.specs.Fields.{Record, header_fault}
-use Rattle.obs_case_csv.specs.Laws.{OtherTablesStay}
-use Rattle.obs_case_csv.specs.OneTable.{SameBut}
-use Rattle.obs_case_csv.specs.Read.{Ends, HoldsFirstRows, HoldsFirstRowsIfGiven, UnlessNoMemory, earlier, fault_at, fault_in, fault_of_records, first_fault, rows_before, rows_in, rows_of_records, table_records}
+use Rattle.obs_case_csv.specs.inner.Laws.{OtherTablesStay}
+use Rattle.obs_case_csv.specs.inner.OneTable.{SameBut}
+use Rattle.obs_case_csv.specs.Read.{earlier, fault_at, fault_in, fault_of_records, first_fault, rows_before, rows_in, rows_of_records, table_records}
+use Rattle.obs_case_csv.specs.inner.Read.{Ends, HoldsFirstRows, HoldsFirstRowsIfGiven, UnlessNoMemory}
 use Rattle.obs_case_csv.specs.Rows.{names_in, next_row, row_fault, with_record}
 
 -- a row more has the next number

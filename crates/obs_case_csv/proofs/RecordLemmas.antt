@@ -13,7 +13,7 @@ use Rattle.csv.specs.declared.reader.Trim.TheVariants as trim
 use Rattle.csv.specs.declared.error.ErrorKind.TheVariants as kind
 use Rattle.obs_case_csv.specs.Fields.{Record}
 use Rattle.obs_case_csv.specs.Read.{most_records}
-use Rattle.obs_case_csv.specs.Records.{BytesReader, Gives, IsFromOutside, ReadsFirst}
+use Rattle.obs_case_csv.specs.inner.Records.{BytesReader, Gives, IsFromOutside, ReadsFirst}
 
 -- a record that was read is the first of those that are left
 record_read : (cfg : Config) (s s2 : State) (y : List ℕ) (f : List (List ℕ)) (left : Option (List ℕ)) (k : ℕ)

@@ -13,8 +13,8 @@ use Rattle.obs_case_csv.specs.declared.faults.Table.TheVariants.{Nodes, Switches
 use Rattle.obs_case_csv.specs.declared.faults.TableFault.{TableFault}
 use Rattle.obs_case_csv.specs.Fields.{Record}
 use Rattle.obs_case_csv.specs.IsCase.{EachIs, IsBranch, IsCandidate, IsMeter, IsNode, IsSwitch}
-use Rattle.obs_case_csv.specs.Laws.{SwitchingIsRead, SwitchingIsReadWithin, TableIsRead}
-use Rattle.obs_case_csv.specs.OneTable.{HasRows, IsSwitchingCaseWithin, IsTableOf}
+use Rattle.obs_case_csv.specs.inner.Laws.{SwitchingIsRead, SwitchingIsReadWithin, TableIsRead}
+use Rattle.obs_case_csv.specs.inner.OneTable.{HasRows, IsSwitchingCaseWithin, IsTableOf}
 use Rattle.obs_case_csv.specs.Read.{fault_in, fault_of_records, first_fault, rows_before, rows_in, rows_of_records, table_records, then_read}
 use Rattle.obs_case_csv.specs.Rows.{names_in}
 use Rattle.obs_case_csv.proofs.CaseLemmas.{IsTable, backward, each-map, forward}

@@ -8,10 +8,10 @@ use Rattle.obs_case_csv.specs.declared.faults.RowFault.{RowFault}
 use Rattle.obs_case_csv.specs.declared.faults.RowFault.TheVariants.{NoHeader, ColumnMissing, ColumnTwice, ShortRow, BadName, BadFlag, BadKind, BadPrice, NameTwice, UnknownNode, UnknownPlace, TooMany}
 use Rattle.obs_case_csv.specs.declared.faults.Table.{Table}
 use Rattle.obs_case_csv.specs.declared.faults.Table.TheVariants.{Nodes, Switches, Branches, Meters, Candidates}
-use Rattle.obs_case_csv.specs.Columns.{own_column}
+use Rattle.obs_case_csv.specs.inner.Columns.{own_column}
 use Rattle.obs_case_csv.specs.Faults.{fault_code}
 use Rattle.obs_case_csv.specs.Fields.{Record, comes_twice, field_of, header_fault, is_short, needed_columns, read_columns}
-use Rattle.obs_case_csv.specs.IsFault.{HeaderHas, RowHas, has_bad_flag, has_bad_kind, has_bad_price, has_unknown_node, has_unknown_place}
+use Rattle.obs_case_csv.specs.inner.IsFault.{HeaderHas, RowHas, has_bad_flag, has_bad_kind, has_bad_price, has_unknown_node, has_unknown_place}
 use Rattle.obs_case_csv.specs.Rows.{lowest, names_in, row_fault}
 
 -- ---- tests in the order of their codes

@@ -14,7 +14,7 @@ use Rattle.obs_case_csv.specs.declared.faults.Table.{Table}
 use Rattle.obs_case_csv.specs.declared.faults.Table.TheVariants.{Nodes, Switches, Branches, Meters, Candidates}
 use Rattle.obs_case_csv.specs.declared.faults.TableFault.{TableFault}
 use Rattle.obs_case_csv.specs.Fields.{Record, field_under, header_fault}
-use Rattle.obs_case_csv.specs.Laws.{KeepsValid}
+use Rattle.obs_case_csv.specs.inner.Laws.{KeepsValid}
 use Rattle.obs_case_csv.specs.Read.{fault_in, rows_before, rows_in, rows_of_records, table_records, tables_or, then_read}
 use Rattle.obs_case_csv.specs.Rows.{row_fault, with_record}
 use Rattle.obs_case_csv.proofs.ExactLemmas.{cheap, within_places, within_rows}

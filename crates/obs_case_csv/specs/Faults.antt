@@ -1,13 +1,10 @@
 -- The names of tables and faults, the numbers of faults, and what is said of each.
-use Rattle.std.specs.Prelude.{◌≡◌, ℕ, List, codes, Option, None, Some}
-use Rattle.obs_text.specs.Faults.{Fault, fault_of}
-use Rattle.obs_text.specs.declared.faults.InputFault.{InputFault}
+use Rattle.std.specs.Prelude.{ℕ, List, codes}
+use Rattle.obs_text.specs.Faults.{Fault}
 use Rattle.obs_case_csv.specs.declared.faults.RowFault.{RowFault}
 use Rattle.obs_case_csv.specs.declared.faults.RowFault.TheVariants.{NoHeader, ColumnMissing, ColumnTwice, ShortRow, BadName, BadFlag, BadKind, BadPrice, NameTwice, UnknownNode, UnknownPlace, TooMany}
 use Rattle.obs_case_csv.specs.declared.faults.Table.{Table}
 use Rattle.obs_case_csv.specs.declared.faults.Table.TheVariants.{Nodes, Switches, Branches, Meters, Candidates}
-use Rattle.obs_case_csv.specs.declared.faults.TableEnd.{TableEnd}
-use Rattle.obs_case_csv.specs.declared.faults.TableEnd.TheVariants as end
 use Rattle.obs_case_csv.specs.declared.faults.TableFault.{TableFault}
 
 -- a table's name in bytes
@@ -52,12 +49,3 @@ fault_code TooMany = 12
 abbrev pub table_fault : TableFault → Fault
 table_fault fault =
     record { part = table_name fault.table; place = fault.row; code = fault_code fault.code; name = fault_name fault.code }
-
--- an input fault that says what a table's fault is
-abbrev pub IsOfTable : TableFault → InputFault → Type 0
-IsOfTable fault given = fault_of given ≡ table_fault fault
-
--- what is said of a table that isn't read to its end: its fault, or nothing where memory was wanting
-abbrev pub table_end_fault : TableEnd → Option Fault
-table_end_fault (end.Fault fault) = Some (table_fault fault)
-table_end_fault end.NoMemory = None

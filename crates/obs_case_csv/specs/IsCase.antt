@@ -71,10 +71,6 @@ pub record IsCaseWithin (most : ℕ) (nodes switches branches meters : List ℕ)
   pub meters_are : AreRows most (IsMeter t) Meters meters t.meters
   pub candidates_are : AreRowsGiven most (IsCandidate t) Candidates candidates t.candidates
 
--- the same under the usual limit
-abbrev pub IsCase : List ℕ → List ℕ → List ℕ → List ℕ → Option (List ℕ) → Tables → Type 0
-IsCase nodes switches branches meters candidates t = IsCaseWithin usual_rows nodes switches branches meters candidates t
-
 -- under a limit, the case that is read is the only one that the bytes are, and a fault is given exactly where they are none
 abbrev pub ReadExactlyWithin : ℕ → Type 0
 ReadExactlyWithin most =

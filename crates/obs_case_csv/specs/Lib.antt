@@ -1,10 +1,6 @@
-pub mod Columns
 pub mod Faults
 pub mod Fields
 pub mod IsCase
-pub mod IsFault
-pub mod Laws
-pub mod OneTable
 pub mod Read
-pub mod Records
 pub mod Rows
+pub mod inner

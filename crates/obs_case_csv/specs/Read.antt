@@ -1,14 +1,12 @@
 -- What the bytes of tables are: the tables that have their rows, or the first fault.
-use Rattle.std.specs.Prelude.{ℕ, ◌+◌, ◌≡◌, List, [], ◌∷◌, take, Option, None, Some, is_none, if◌then◌else◌, Result, Ok, Err}
+use Rattle.std.specs.Prelude.{ℕ, ◌+◌, List, [], ◌∷◌, Option, None, Some, is_none, if◌then◌else◌, Result, Ok, Err}
 use Rattle.csv.specs.Reading.{default_config, records_from, strip_bom}
 use Rattle.csv.specs.declared.parser.State.TheVariants as st
-use Rattle.obs_case.specs.Tables.{Tables, no_rows_within, usual_rows}
+use Rattle.obs_case.specs.Tables.{Tables, no_rows_within}
 use Rattle.obs_case_csv.specs.declared.faults.RowFault.{RowFault}
 use Rattle.obs_case_csv.specs.declared.faults.RowFault.TheVariants.{NoHeader}
 use Rattle.obs_case_csv.specs.declared.faults.Table.{Table}
 use Rattle.obs_case_csv.specs.declared.faults.Table.TheVariants.{Nodes, Switches, Branches, Meters, Candidates}
-use Rattle.obs_case_csv.specs.declared.faults.TableEnd.{TableEnd}
-use Rattle.obs_case_csv.specs.declared.faults.TableEnd.TheVariants.{Fault, NoMemory}
 use Rattle.obs_case_csv.specs.declared.faults.TableFault.{TableFault}
 use Rattle.obs_case_csv.specs.Fields.{Record, header_fault}
 use Rattle.obs_case_csv.specs.Rows.{next_row, row_fault, with_record}
@@ -60,41 +58,6 @@ fault_in table t bytes = fault_of_records table t (table_records t.most bytes)
 abbrev pub rows_in : Table → Tables → List ℕ → Tables
 rows_in table t bytes = rows_of_records table t (table_records t.most bytes)
 
--- the same of a table that may be given
-abbrev pub rows_if_given : Table → Option (List ℕ) → Tables → Tables
-rows_if_given table None t = t
-rows_if_given table (Some bytes) t = rows_in table t bytes
-
--- the tables with the rows of the meters' table before its first fault, and where it has none, with those of the candidates' before theirs
-abbrev pub rows_of_both : List ℕ → Option (List ℕ) → Tables → Tables
-rows_of_both meters candidates t =
-    if is_none (fault_in Meters t meters) then rows_if_given Candidates candidates (rows_in Meters t meters) else rows_in Meters t meters
-
--- the tables that have the rows of some of a table's first records
-abbrev pub HoldsFirstRows : Table → List ℕ → Tables → Tables → Type 0
-HoldsFirstRows table bytes old new = (n : ℕ) × (new ≡ rows_of_records table old (take n (table_records old.most bytes)))
-
--- the same of a table that may be given
-abbrev pub HoldsFirstRowsIfGiven : Table → Option (List ℕ) → Tables → Tables → Type 0
-HoldsFirstRowsIfGiven table None old new = new ≡ old
-HoldsFirstRowsIfGiven table (Some bytes) old new = HoldsFirstRows table bytes old new
-
--- the tables that have the rows of some of the first records of the meters' table, and then of the candidates', and nothing else new
-abbrev pub HoldsFirstRowsOfBoth : List ℕ → Option (List ℕ) → Tables → Tables → Type 0
-HoldsFirstRowsOfBoth meters candidates old new =
-    (metered : Tables) × HoldsFirstRows Meters meters old metered × HoldsFirstRowsIfGiven Candidates candidates metered new
-
--- an answer that ends the reading of a table: want of memory, or this fault
-abbrev pub Ends : Option TableFault → TableEnd → Type 0
-Ends fault (Fault f) = fault ≡ Some f
-Ends fault NoMemory = Unit {0}
-
--- a fact for every answer but want of memory
-abbrev pub UnlessNoMemory : {T : Type 0} → Result T TableEnd → Type 0 → Type 0
-UnlessNoMemory (Ok x) P = P
-UnlessNoMemory (Err (Fault f)) P = P
-UnlessNoMemory (Err NoMemory) P = Unit {0}
-
 -- the tables with a further table read, or the first fault
 abbrev pub tables_or : Option TableFault → Tables → Result Tables TableFault
 tables_or None t = Ok t
@@ -117,12 +80,3 @@ tables_after meters candidates tables = then_read_given Candidates candidates (t
 abbrev pub tables_within : ℕ → List ℕ → List ℕ → List ℕ → List ℕ → Option (List ℕ) → Result Tables TableFault
 tables_within most nodes switches branches meters candidates =
     then_read_given Candidates candidates (then_read Meters meters (then_read Branches branches (then_read Switches switches (then_read Nodes nodes (Ok (no_rows_within most))))))
-
--- the same under the usual limit
-abbrev pub tables_in : List ℕ → List ℕ → List ℕ → List ℕ → Option (List ℕ) → Result Tables TableFault
-tables_in nodes switches branches meters candidates = tables_within usual_rows nodes switches branches meters candidates
-
--- an answer that ends the reading of tables, one after another: want of memory, or this fault
-abbrev pub EndsAll : Result Tables TableFault → TableEnd → Type 0
-EndsAll read (Fault f) = read ≡ Err f
-EndsAll read NoMemory = Unit {0}

@@ -2,7 +2,7 @@
 ghost use Rattle.std.specs.Prelude.{◌≡◌, ◌∷◌, [], Some, None, false, bytes_eq, IfOk, IfErr, IfSome, OnOk, option_map, is_none, unwrap_or};
 ghost use Rattle.csv.specs.Records.{field_at, fields_of};
 ghost use Rattle.obs_case.specs.Tables.{has_name, place_of, position_of};
-ghost use Rattle.obs_case_csv.specs.Columns.{ArePlaces, lacks_field};
+ghost use Rattle.obs_case_csv.specs.inner.Columns.{ArePlaces, lacks_field};
 ghost use Rattle.obs_case_csv.specs.Fields.{columns_fault, comes_twice, field_or_0, header_fault};
 
 use crate::faults::{RowFault, Table};

@@ -1,7 +1,8 @@
 // What is wrong with a table, and where.
 ghost use Rattle.std.specs.Prelude.{◌≡◌, option_map};
-ghost use Rattle.obs_text.specs.Faults.{fault_of};
-ghost use Rattle.obs_case_csv.specs.Faults.{IsOfTable, fault_code, fault_name, table_end_fault, table_name};
+ghost use Rattle.obs_text.specs.inner.Faults.{fault_of};
+ghost use Rattle.obs_case_csv.specs.Faults.{fault_code, fault_name, table_name};
+ghost use Rattle.obs_case_csv.specs.inner.Faults.{IsOfTable, table_end_fault};
 
 use obs_text::InputFault;
 

@@ -2,7 +2,7 @@
 ghost use Rattle.std.specs.Prelude.{ℕ, ◌≤◌};
 ghost use Rattle.obs_case.specs.Tables.{most_rows};
 ghost use Rattle.obs_case_csv.specs.IsCase.{ReadExactly, ReadExactlyWithin};
-ghost use Rattle.obs_case_csv.specs.Laws.{FirstFault, FirstFaultBehindFile, FirstFaultOfCase, FirstFaultOfCaseWithin, FirstFaultOfSwitching, FirstFaultOfSwitchingWithin, KeepsValid, OtherTablesStay, RowsBeforeFault, RowsBeforeSome, SwitchingIsRead, SwitchingIsReadWithin, TableIsRead};
+ghost use Rattle.obs_case_csv.specs.inner.Laws.{FirstFault, FirstFaultBehindFile, FirstFaultOfCase, FirstFaultOfCaseWithin, FirstFaultOfSwitching, FirstFaultOfSwitchingWithin, KeepsValid, OtherTablesStay, RowsBeforeFault, RowsBeforeSome, SwitchingIsRead, SwitchingIsReadWithin, TableIsRead};
 
 /// The case that is read is the only one that the bytes are, and a fault is given exactly where the
 /// bytes are no case; so it is under every limit that a case may have.

@@ -2,10 +2,11 @@
 ghost use Rattle.std.specs.Prelude.{◌≡◌, ◌≤◌, ◌+◌, [], None, Ok, IfErr, IfOk, OnErr, OnOk, option_map};
 ghost use Rattle.csv.specs.Records.{fields_of};
 ghost use Rattle.obs_case.specs.Tables.{most_rows, no_rows_within};
-ghost use Rattle.obs_case_csv.specs.Columns.{ArePlaces};
+ghost use Rattle.obs_case_csv.specs.inner.Columns.{ArePlaces};
 ghost use Rattle.obs_case_csv.specs.Fields.{Record};
-ghost use Rattle.obs_case_csv.specs.Read.{Ends, EndsAll, HoldsFirstRows, HoldsFirstRowsOfBoth, UnlessNoMemory, fault_at, fault_in, most_records, rows_in, rows_of_both, table_records, tables_after, tables_in, tables_within};
-ghost use Rattle.obs_case_csv.specs.Records.{Gives};
+ghost use Rattle.obs_case_csv.specs.Read.{fault_at, fault_in, most_records, rows_in, table_records, tables_after, tables_within};
+ghost use Rattle.obs_case_csv.specs.inner.Read.{Ends, EndsAll, HoldsFirstRows, HoldsFirstRowsOfBoth, UnlessNoMemory, rows_of_both, tables_in};
+ghost use Rattle.obs_case_csv.specs.inner.Records.{Gives};
 ghost use Rattle.obs_case_csv.specs.Rows.{names_in, next_row, row_fault, with_record};
 
 use crate::columns::{Places, fields_at, places_in};

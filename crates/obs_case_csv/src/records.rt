@@ -4,7 +4,7 @@ ghost use Rattle.csv.specs.Reading.{error_kind};
 ghost use Rattle.csv.specs.Records.{fields_of};
 ghost use Rattle.obs_case_csv.specs.Fields.{Record};
 ghost use Rattle.obs_case_csv.specs.Read.{most_records, table_records};
-ghost use Rattle.obs_case_csv.specs.Records.{Gives, IsFromOutside, ReadsFirst};
+ghost use Rattle.obs_case_csv.specs.inner.Records.{Gives, IsFromOutside, ReadsFirst};
 
 use crate::faults::TableEnd;
 use csv::{ByteRecord, Reader, ReaderBuilder};

@@ -2,7 +2,7 @@
 ghost use Rattle.std.specs.Prelude.{◌≡◌, ◌<◌, length, None, IfErr, OnErr, OnOk};
 ghost use Rattle.obs_case.specs.Adds.{branch_of, candidate_of, meter_of, switch_of, with_branch, with_candidate, with_meter, with_node, with_switch};
 ghost use Rattle.obs_case.specs.Tables.{branch_names, candidate_names, meter_names, node_names, switch_names};
-ghost use Rattle.obs_case_csv.specs.Columns.{Stops, ordered_fault, row_end, with_ordered};
+ghost use Rattle.obs_case_csv.specs.inner.Columns.{Stops, ordered_fault, row_end, with_ordered};
 ghost use Rattle.obs_case_csv.specs.Rows.{branch_row_fault, candidate_row_fault, flag, kind as kind_in, meter_row_fault, names_in, node_read, node_row_fault, price as price_in, switch_row_fault};
 
 use crate::columns::Fields;

@@ -9,9 +9,9 @@ use Rattle.obs_network.specs.Network.{Network, case_branches, case_vertex_count,
 use Rattle.obs_network.proofs.OfCase.{case_branches-are, case_vertex_count-le}
 use Rattle.obs_cert.specs.declared.contraction.Contraction.{Contraction}
 use Rattle.obs_cert.specs.declared.contraction.Contraction.TheVariants.{Nothing}
-use Rattle.obs_cert.specs.Contractions.{IsContraction, contracted_ends}
+use Rattle.obs_cert.specs.inner.Contractions.{IsContraction, contracted_ends}
 use Rattle.obs_cert.specs.Flaws.{rank_of_branches}
-use Rattle.obs_cert.specs.Joins.{AreJoined, onto}
+use Rattle.obs_cert.specs.inner.Joins.{AreJoined, onto}
 use Rattle.obs_cert.proofs.ContractionLemmas.{branches_below, case_below, contracted_nothing}
 use Rattle.obs_cert.proofs.JoinLemmas.{count_is}
 use Rattle.obs_cert.proofs.RankLemmas.{noted_rank}

@@ -10,12 +10,12 @@ use Rattle.obs_cert.specs.declared.flaw.FlawCode.TheVariants.{UnknownName, NotCo
 use Rattle.obs_cert.specs.declared.work.Work.{Work}
 use Rattle.obs_cert.specs.Claims.{BoundClaim, CostClaim, Layer, ShortfallClaim, TreeClaim}
 use Rattle.obs_cert.specs.Flaws.{Listed, bound_clauses, bound_flaw, cost_flaw, costs_clauses, first_true, forest_clauses, layers_clauses, list_clauses, listed_layers, not_below, not_inside, not_touched, outside_of, paired_twice, rank_of_items, runs_on, shortfall_flaw, shows, tree_flaw, twice, unknown_item, unknown_pair, wrong_rank, wrong_outside}
-use Rattle.obs_cert.specs.Hubs.{Hubs}
-use Rattle.obs_cert.specs.Marks.{AreBelow}
+use Rattle.obs_cert.specs.inner.Hubs.{Hubs}
+use Rattle.obs_cert.specs.inner.Marks.{AreBelow}
 use Rattle.obs_cert.specs.Numbered.{chosen_items, items_of, paired_items, pairs_of}
-use Rattle.obs_cert.specs.Ready.{HasRoom, IsReady}
-use Rattle.obs_cert.specs.Joins.{AreFree, AreJoined}
-use Rattle.obs_cert.specs.Stars.{AreStarRanks}
+use Rattle.obs_cert.specs.inner.Ready.{HasRoom, IsReady}
+use Rattle.obs_cert.specs.inner.Joins.{AreFree, AreJoined}
+use Rattle.obs_cert.specs.inner.Stars.{AreStarRanks}
 use Rattle.std.proofs.lemmas.List.{length-map, with_items_is}
 use Rattle.std.specs.Vec.{with_items}
 use Rattle.obs_cert.specs.Claims.{Item}
@@ -23,7 +23,8 @@ use Rattle.obs_cert.specs.Flaws.{outside_of_plan, twice_in_plan, unknown_in_plan
 use Rattle.obs_cert.specs.Numbered.{item_of}
 use Rattle.obs_cert.proofs.OutsideLemmas.{outside_is}
 use Rattle.obs_meter.specs.Lost.{is_listed}
-use Rattle.obs_cert.specs.Scopes.{OfItems, scope_of, is_below, is_live_item, is_meter_in, is_of_plan, named_component, named_need, names_component, price_at}
+use Rattle.obs_cert.specs.Scopes.{scope_of, is_below, is_live_item, is_meter_in, is_of_plan, named_component, named_need, names_component, price_at}
+use Rattle.obs_cert.specs.inner.Scopes.{OfItems}
 use Rattle.obs_network.specs.Network.{Rows, case_needed, rows_of}
 
 pub more_below : (stamp : ℕ) (marks : List ℕ) → AreBelow stamp marks → AreBelow (suc stamp) marks

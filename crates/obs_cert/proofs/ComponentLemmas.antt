@@ -14,7 +14,8 @@ use Rattle.obs_meter.specs.Touches.{is_live, live_items, touched}
 use Rattle.obs_meter.proofs.Assigned.{live_items-distinct}
 use Rattle.obs_case.specs.Tables.{IsValid, Tables, most_rows}
 use Rattle.obs_network.specs.Components.{vertex_component}
-use Rattle.obs_network.specs.Located.{component_of_item, is_meter_in as is_in, live_meters_of, touch_component}
+use Rattle.obs_network.specs.Located.{component_of_item, touch_component}
+use Rattle.obs_network.specs.inner.Located.{is_meter_in as is_in, live_meters_of}
 use Rattle.obs_network.specs.Network.{case_branches, case_components, case_meters, case_offered, case_position_room, is_meter, network_of}
 use Rattle.obs_network.proofs.Marked.{filtered_below}
 use Rattle.obs_network.proofs.OfCase.{length-case_meters, length-case_offered}

@@ -7,7 +7,8 @@ use Rattle.std.proofs.lemmas.List.{get_or_past, get_or_append_left}
 use Rattle.std.proofs.lemmas.List.Elements.{All-cons, All-nil, Contains-append_cases, Contains-append_right}
 use Rattle.obs_case.specs.Tables.{IsValid, Tables}
 use Rattle.obs_graph.specs.declared.Ends.{Ends}
-use Rattle.obs_graph.specs.Joined.{AreMergedBy, InRange, Leads, first_joined, rank, renamed, renamed_one}
+use Rattle.obs_graph.specs.Joined.{Leads, first_joined, rank}
+use Rattle.obs_graph.specs.inner.Joined.{AreMergedBy, InRange, renamed, renamed_one}
 use Rattle.obs_graph.specs.Positions.{AreBranches, branches_at, ends_of, has_end}
 use Rattle.obs_graph.proofs.AtPositions.{contains-ends_of, ends_of-contains}
 use Rattle.obs_graph.proofs.AtVertex.{at_vertex, end_at, has_end-at_vertex, has_end-leads}
@@ -15,7 +16,7 @@ use Rattle.obs_graph.proofs.Chains.{Chain-from_same_first, first_joined-contains
 use Rattle.obs_graph.proofs.Forests.{rank-among}
 use Rattle.obs_graph.proofs.IsJoined.{same-from_true, true-from_same}
 use Rattle.obs_graph.proofs.MergedBy.{rank-merged_by}
-use Rattle.obs_graph.specs.Search.{AreBelow}
+use Rattle.obs_graph.specs.inner.Search.{AreBelow}
 use Rattle.obs_graph.proofs.Present.{AreBelow-part}
 use Rattle.obs_matroid.specs.Lists.{In}
 use Rattle.obs_matroid.proofs.Contained.{Contains-from_In, In-from_Contains}
@@ -25,12 +26,12 @@ use Rattle.obs_network.specs.Network.{case_angles, case_branches, case_rows, cas
 use Rattle.obs_network.proofs.OfCase.{case_branches-are, case_vertex_count-le, few_nodes, length-case_rows}
 use Rattle.obs_cert.specs.declared.contraction.Contraction.{Contraction}
 use Rattle.obs_cert.specs.declared.contraction.Contraction.TheVariants.{Nothing, Star}
-use Rattle.obs_cert.specs.Contractions.{FitsIn, IsContracted, IsContraction, becomes, contracted, contracted_ends, renamed_ends}
+use Rattle.obs_cert.specs.inner.Contractions.{FitsIn, IsContracted, IsContraction, becomes, contracted, contracted_ends, renamed_ends}
 use Rattle.obs_cert.specs.Flaws.{rank_of_items}
-use Rattle.obs_cert.specs.Hubs.{AreHubs, AreSpanned}
-use Rattle.obs_cert.specs.Links.{AreLinks, link, link_of, links_of}
+use Rattle.obs_cert.specs.inner.Hubs.{AreHubs, AreSpanned}
+use Rattle.obs_cert.specs.inner.Links.{AreLinks, link, link_of, links_of}
 use Rattle.obs_cert.specs.Scopes.{touches_of}
-use Rattle.obs_cert.specs.Stars.{star_rank}
+use Rattle.obs_cert.specs.inner.Stars.{star_rank}
 use Rattle.obs_cert.proofs.LinkLemmas.{link_back, link_zero, linked_as, listed_same, row_from, row_listed}
 
 pub branches_below : (n : ℕ) (ends : List (Option Ends)) → AreBranches n ends → AreBelow n ends

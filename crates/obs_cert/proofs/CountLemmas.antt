@@ -8,8 +8,10 @@ use Rattle.obs_cert.specs.declared.fault.CertCode.TheVariants.{NoEnd}
 use Rattle.obs_cert.specs.declared.fault.CertFault.{CertFault}
 use Rattle.obs_cert.specs.declared.place.Place.{Place}
 use Rattle.obs_cert.specs.declared.place.Place.TheVariants.{Start}
-use Rattle.obs_cert.specs.Places.{is_over, is_start, step}
-use Rattle.obs_cert.specs.Read.{HasClaims, claims_in, claims_of, onto_lines, parts_of, read_from, then_read}
+use Rattle.obs_cert.specs.Places.{is_over, step}
+use Rattle.obs_cert.specs.inner.Places.{is_start}
+use Rattle.obs_cert.specs.Read.{claims_in, claims_of, onto_lines, parts_of, read_from, then_read}
+use Rattle.obs_cert.specs.inner.Read.{HasClaims}
 use Rattle.obs_cert.specs.Words.{Line, tree_line, bound_line, cost_line, shortfall_line, pair_line, chosen_line, layer_line, inside_line, end_line}
 
 -- one for a line that starts a claim

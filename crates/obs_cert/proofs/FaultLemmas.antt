@@ -8,8 +8,8 @@ use Rattle.obs_cert.specs.declared.fault.CertCode.TheVariants.{BadLine, OutOfPla
 use Rattle.obs_cert.specs.declared.fault.CertFault.{CertFault}
 use Rattle.obs_cert.specs.declared.place.Place.{Place}
 use Rattle.obs_cert.specs.declared.place.Place.TheVariants.{Start}
-use Rattle.obs_cert.specs.Certificate.{IsFirstFault, IsFront, IsWhole, IsWrong}
-use Rattle.obs_cert.specs.Laws.{FirstFaultIsMet}
+use Rattle.obs_cert.specs.inner.Certificate.{IsFirstFault, IsFront, IsWhole, IsWrong}
+use Rattle.obs_cert.specs.inner.Laws.{FirstFaultIsMet}
 use Rattle.obs_cert.specs.Places.{formed, in_place, is_over, place_after, step}
 use Rattle.obs_cert.specs.Read.{claims_in, onto_lines, read_from, then_read}
 use Rattle.obs_cert.specs.Words.{Line, end_line, line_of}

@@ -10,8 +10,8 @@ use Rattle.obs_text.specs.Numbers.{is_whole, value_after, whole_of}
 use Rattle.obs_text.proofs.ByteLemmas.{same_bytes}
 use Rattle.obs_text.proofs.DecimalLemmas.{digits-name, gate}
 use Rattle.obs_cert.specs.Claims.{Item, Pair, meter, candidate}
-use Rattle.obs_cert.specs.Forms.{HasForm, Write, claimed_name, sort_word, with_tabs}
-use Rattle.obs_cert.specs.Laws.{FormsArePlain, LinesHaveForms}
+use Rattle.obs_cert.specs.inner.Forms.{HasForm, Write, claimed_name, sort_word, with_tabs}
+use Rattle.obs_cert.specs.inner.Laws.{FormsArePlain, LinesHaveForms}
 use Rattle.obs_cert.specs.Words.{Line, tree_line, bound_line, cost_line, shortfall_line, pair_line, chosen_line, layer_line, inside_line, end_line}
 use Rattle.obs_cert.specs.Words.{bound_of, item_in, layer_of, line_of, line_of_words, name_in, of_five, of_four, of_one, of_three, of_two, pair_line_of, shortfall_of, words_of}
 use Rattle.obs_cert.proofs.WordLemmas.{with_tabs-words_of, words_of-with_tabs}

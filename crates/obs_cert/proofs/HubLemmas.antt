@@ -5,15 +5,15 @@ use Rattle.std.proofs.lemmas.Bool.{cases_eq}
 use Rattle.obs_case.specs.Tables.{IsValid, Tables}
 use Rattle.obs_graph.specs.declared.Ends.{Ends}
 use Rattle.obs_graph.specs.Joined.{first_joined, merged}
-use Rattle.obs_graph.specs.Search.{AreBelow}
+use Rattle.obs_graph.specs.inner.Search.{AreBelow}
 use Rattle.obs_graph.specs.Positions.{branches_at}
 use Rattle.obs_graph.proofs.First.{first_joined-ends}
 use Rattle.obs_matroid.specs.Lists.{In}
 use Rattle.obs_network.specs.Network.{case_branches, case_rows, case_vertex_count}
 use Rattle.obs_cert.specs.declared.contraction.Contraction.{Contraction}
-use Rattle.obs_cert.specs.Contractions.{IsContraction, contracted_ends}
-use Rattle.obs_cert.specs.Hubs.{AreHubs, AreSpanned}
-use Rattle.obs_cert.specs.Joins.{AreFirsts, AreJoined, AreLow, onto}
+use Rattle.obs_cert.specs.inner.Contractions.{IsContraction, contracted_ends}
+use Rattle.obs_cert.specs.inner.Hubs.{AreHubs, AreSpanned}
+use Rattle.obs_cert.specs.inner.Joins.{AreFirsts, AreJoined, AreLow, onto}
 use Rattle.obs_cert.proofs.ContractionLemmas.{case_below}
 use Rattle.obs_cert.proofs.JoinLemmas.{joined_already}
 

@@ -10,7 +10,7 @@ use Rattle.obs_graph.proofs.Forests.{rank-nil}
 use Rattle.obs_graph.proofs.Ranks.{first_joined-add_joined, rank-add_joined, rank-add_new, rank-le-n}
 use Rattle.obs_matroid.specs.Lists.{In}
 use Rattle.obs_matroid.proofs.Lists.{In-append_left, In-append_right, In-append_cases}
-use Rattle.obs_cert.specs.Joins.{AreFirsts, AreJoined, AreLow, onto}
+use Rattle.obs_cert.specs.inner.Joins.{AreFirsts, AreJoined, AreLow, onto}
 
 -- the ways that all end at once
 pub own_joined : (ups : List ℕ) → ((u : ℕ) → u < length ups → get_or ups u 0 ≡ u) → AreJoined [] ups []

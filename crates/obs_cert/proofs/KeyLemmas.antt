@@ -11,7 +11,7 @@ use Rattle.obs_case.specs.Tables.{Tables}
 use Rattle.obs_matroid.proofs.Lists.{filter_same}
 use Rattle.obs_meter.specs.Touches.{every_item}
 use Rattle.obs_network.specs.Network.{case_offered, is_meter}
-use Rattle.obs_cert.specs.Keys.{key_of, keys_of}
+use Rattle.obs_cert.specs.inner.Keys.{key_of, keys_of}
 use Rattle.obs_cert.specs.Scopes.{is_below, is_live_item, price_at, scope_of}
 
 -- an item is below a price exactly where its key is up to it

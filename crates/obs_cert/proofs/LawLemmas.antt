@@ -7,9 +7,9 @@ use Rattle.obs_cert.specs.declared.fault.CertCode.TheVariants.{AfterEnd, NoEnd}
 use Rattle.obs_cert.specs.declared.fault.CertFault.{CertFault}
 use Rattle.obs_cert.specs.declared.place.Place.{Place}
 use Rattle.obs_cert.specs.declared.place.Place.TheVariants.{Start}
-use Rattle.obs_cert.specs.Certificate.{IsCertificate, certificate_lines}
+use Rattle.obs_cert.specs.inner.Certificate.{IsCertificate, certificate_lines}
 use Rattle.obs_cert.specs.Claims.{Claim}
-use Rattle.obs_cert.specs.Laws.{CertificateIsRead, FaultWhereNoCertificate}
+use Rattle.obs_cert.specs.inner.Laws.{CertificateIsRead, FaultWhereNoCertificate}
 use Rattle.obs_cert.specs.Places.{formed, in_place, is_over, place_after, step}
 use Rattle.obs_cert.specs.Read.{claims_in, claims_of, onto_lines, parts_of, read_from, then_read}
 use Rattle.obs_cert.specs.Words.{Line, line_of}

@@ -10,11 +10,11 @@ use Rattle.obs_graph.specs.declared.Ends.{Ends}
 use Rattle.obs_cert.specs.declared.layers.Seen.{Seen}
 use Rattle.obs_cert.specs.Claims.{Item, Layer}
 use Rattle.obs_cert.specs.Flaws.{Listed, listed_from, not_inside, rank_of_items, wrong_rank}
-use Rattle.obs_cert.specs.Joins.{AreJoined, onto}
+use Rattle.obs_cert.specs.inner.Joins.{AreJoined, onto}
 use Rattle.obs_cert.specs.Numbered.{item_of, items_of}
 use Rattle.obs_network.specs.Network.{is_meter}
 use Rattle.obs_cert.specs.Scopes.{is_below, is_live_item, price_at, touches_of}
-use Rattle.obs_cert.specs.Seen.{Tells, too_dear}
+use Rattle.obs_cert.specs.inner.Seen.{Tells, too_dear}
 use Rattle.obs_cert.proofs.JoinLemmas.{onto-append}
 
 -- while items are seen

@@ -15,7 +15,7 @@ use Rattle.obs_matroid.proofs.Lists.{In-map, In-map_from}
 use Rattle.obs_matroid.proofs.Ranges.{range_from, range_in}
 use Rattle.obs_meter.specs.Lost.{is_listed}
 use Rattle.obs_meter.proofs.Touched.{In-from_any, any-from_In}
-use Rattle.obs_cert.specs.Links.{AreLinks, link, link_at, links_of}
+use Rattle.obs_cert.specs.inner.Links.{AreLinks, link, link_at, links_of}
 
 -- one of two numbers is the lower one, and the other the higher
 sides : (a b : ℕ) → ((min a b ≡ a) × (max a b ≡ b)) ⊎ ((min a b ≡ b) × (max a b ≡ a))

@@ -4,7 +4,7 @@ use Rattle.std.specs.List.{list_any}
 use Rattle.std.proofs.lemmas.Bool.{cases_eq, eq-eqb, ne_eqb}
 use Rattle.obs_rankcut.proofs.Marked.{number_flips}
 use Rattle.obs_cert.specs.Flaws.{twice}
-use Rattle.obs_cert.specs.Marks.{AreBelow, is_marked}
+use Rattle.obs_cert.specs.inner.Marks.{AreBelow, is_marked}
 use Rattle.obs_meter.specs.Lost.{is_listed}
 
 fresh_case : (f m a h t : Bool) → m ≡ false → (f || ((m || a) || (h || t))) ≡ (f || ((h || a) || t))

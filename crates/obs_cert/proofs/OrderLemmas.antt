@@ -2,7 +2,7 @@
 use Rattle.std.proofs.Common.{◌≡◌, ℕ, true, false, List, [], ◌∷◌, ◌++◌, map, Option, Some, None, refl, sym, ap, ◌∙◌, subst, append_assoc}
 use Rattle.obs_cert.specs.declared.place.Place.{Place}
 use Rattle.obs_cert.specs.declared.place.Place.TheVariants.{Start, Tree, Bound, Cost, Pairs, Layer, Shortfall, End}
-use Rattle.obs_cert.specs.Certificate.{certificate_lines, claim_lines, joined, layer_lines}
+use Rattle.obs_cert.specs.inner.Certificate.{certificate_lines, claim_lines, joined, layer_lines}
 use Rattle.obs_cert.specs.Claims.{BoundClaim, Claim, CostClaim, Item, Pair, ShortfallClaim, TreeClaim, tree, bound, cost, shortfall}
 use Rattle.obs_cert.specs.Claims as claims
 use Rattle.obs_cert.specs.Places.{is_over, layer_after, place_after}

@@ -16,7 +16,8 @@ use Rattle.obs_cert.specs.Claims.{Layer}
 use Rattle.obs_cert.specs.Flaws.{Listed, all_inside, listed_from, not_inside, outside_of, twice, wrong_outside}
 use Rattle.obs_cert.specs.Numbered.{item_of, items_of}
 use Rattle.obs_meter.specs.Lost.{is_listed}
-use Rattle.obs_cert.specs.Scopes.{OfItems, is_below, is_live_item, is_meter_in, is_this, price_at, scope_of}
+use Rattle.obs_cert.specs.Scopes.{is_below, is_live_item, is_meter_in, is_this, price_at, scope_of}
+use Rattle.obs_cert.specs.inner.Scopes.{OfItems}
 use Rattle.obs_meter.proofs.Touched.{In-from_any, any-from_In}
 use Rattle.obs_cert.proofs.CountingLemmas.{distinct, each_passes, others}
 

@@ -4,7 +4,7 @@ use Rattle.std.specs.List.{Contains, cons_option}
 use Rattle.std.proofs.lemmas.Bool.{cases_lt, eq-eqb}
 use Rattle.obs_graph.specs.declared.Ends.{Ends}
 use Rattle.obs_graph.specs.Joined.{count_below, first_joined, merged, rank}
-use Rattle.obs_graph.specs.Search.{AreBelow}
+use Rattle.obs_graph.specs.inner.Search.{AreBelow}
 use Rattle.obs_graph.specs.Positions.{ends_of}
 use Rattle.obs_graph.proofs.AtPositions.{ends_of-contains, contains_cons}
 use Rattle.obs_graph.proofs.Chains.{Contains-here, Contains-there}
@@ -12,7 +12,7 @@ use Rattle.obs_graph.proofs.Counts.{count_below-no}
 use Rattle.obs_graph.proofs.First.{first_joined-le, merged-other}
 use Rattle.obs_graph.proofs.Forests.{rank-among}
 use Rattle.obs_graph.proofs.Ranks.{is_moved, rank_is}
-use Rattle.obs_cert.specs.Joins.{AreJoined, onto}
+use Rattle.obs_cert.specs.inner.Joins.{AreJoined, onto}
 use Rattle.obs_cert.proofs.JoinLemmas.{count_is}
 use Rattle.obs_rankcut.proofs.Ranked.{cons_cases, cons_here}
 

@@ -4,8 +4,9 @@ use Rattle.obs_text.specs.Lines.{lines_of}
 use Rattle.obs_cert.specs.declared.fault.CertFault.{CertFault}
 use Rattle.obs_cert.specs.declared.place.Place.TheVariants.{Start}
 use Rattle.obs_cert.specs.Claims.{Claim}
-use Rattle.obs_cert.specs.Read.{HasClaims, claims_in, claims_of, claims_or_none, parts_of, read_from}
-use Rattle.obs_cert.specs.Walked.{parts_in, said_line, said_lines}
+use Rattle.obs_cert.specs.Read.{claims_in, claims_of, parts_of, read_from}
+use Rattle.obs_cert.specs.inner.Read.{HasClaims, claims_or_none}
+use Rattle.obs_cert.specs.inner.Walked.{parts_in, said_line, said_lines}
 use Rattle.obs_cert.specs.Words.{Line, line_of}
 use Rattle.obs_cert.proofs.LawLemmas.{are_read}
 

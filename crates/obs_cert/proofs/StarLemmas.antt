@@ -9,7 +9,8 @@ use Rattle.obs_case.specs.Tables.{IsValid, Tables}
 use Rattle.obs_meter.specs.declared.Hub.{Hub}
 use Rattle.obs_meter.specs.declared.Touch.{Touch}
 use Rattle.obs_meter.specs.declared.Touch.TheVariants.{Nothing}
-use Rattle.obs_meter.specs.Touches.{hub_of, touch_at, touched}
+use Rattle.obs_meter.specs.Touches.{touch_at, touched}
+use Rattle.obs_meter.specs.inner.Touches.{hub_of}
 use Rattle.obs_network.specs.Network.{case_angles, case_branches, case_offered, case_rows}
 use Rattle.obs_network.specs.Switched.{case_buses}
 use Rattle.obs_network.specs.Touching.{rows_at, touch_of}

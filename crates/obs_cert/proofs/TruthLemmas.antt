@@ -10,7 +10,8 @@ use Rattle.std.proofs.lemmas.List.Sums.{passes_at_first}
 use Rattle.obs_case.specs.Tables.{IsValid, Tables, has_name, node_names, place_of}
 use Rattle.obs_case.proofs.NameLemmas.{place-there}
 use Rattle.obs_matroid.specs.Lists.{In, IsDistinct}
-use Rattle.obs_matroid.specs.Matroid.{Matroid, IsMatroid}
+use Rattle.obs_matroid.specs.Matroid.{Matroid}
+use Rattle.obs_matroid.specs.inner.Matroid.{IsMatroid}
 use Rattle.obs_matroid.specs.Assignments.{IsAssignment, Pair as NumberPair, branches, items}
 use Rattle.obs_matroid.proofs.Bounds.{length-branches, weak_bound}
 use Rattle.obs_matroid.proofs.Lists.{In-filter_from, In-flat_map, In-flat_map_from, clash}
@@ -21,7 +22,7 @@ use Rattle.obs_meter.specs.Spanned.{graph_matroid}
 use Rattle.obs_meter.specs.Touches.{touch_at}
 use Rattle.obs_meter.proofs.Assigned.{forest_at-from_independent}
 use Rattle.obs_meter.proofs.Instance.{IsMatroid-graph}
-use Rattle.obs_network.specs.Components.{is_energised}
+use Rattle.obs_network.specs.inner.Components.{is_energised}
 use Rattle.obs_network.specs.Network.{case_branches, case_component_count, case_components, case_energised, case_first_buses, case_offered, case_vertex_count}
 use Rattle.obs_network.specs.Observable.{is_energised_component}
 use Rattle.obs_network.specs.Switched.{case_buses, case_first_node}

@@ -9,7 +9,7 @@ use Rattle.std.proofs.lemmas.List.Sums.{AllPass-from_list_all}
 use Rattle.std.specs.List.{list_all, onto_first, position_or_len, slice_split}
 use Rattle.std.specs.Str.{bytes_eq}
 use Rattle.obs_text.specs.Names.{is_name, is_name_byte}
-use Rattle.obs_cert.specs.Forms.{with_tabs}
+use Rattle.obs_cert.specs.inner.Forms.{with_tabs}
 use Rattle.obs_cert.specs.Words.{is_tab, item_in, line_of_words, of_two, words_of}
 
 -- the place of the first tab

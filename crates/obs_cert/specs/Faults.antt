@@ -1,11 +1,8 @@
 -- The numbers and names of faults, and what is said of each.
-use Rattle.std.specs.Prelude.{◌≡◌, ℕ, List, codes, Option, None, Some}
-use Rattle.obs_text.specs.Faults.{Fault, fault_of}
-use Rattle.obs_text.specs.declared.faults.InputFault.{InputFault}
+use Rattle.std.specs.Prelude.{ℕ, List, codes}
+use Rattle.obs_text.specs.Faults.{Fault}
 use Rattle.obs_cert.specs.declared.fault.CertCode.{CertCode}
 use Rattle.obs_cert.specs.declared.fault.CertCode.TheVariants.{BadLine, OutOfPlace, NoEnd, AfterEnd}
-use Rattle.obs_cert.specs.declared.fault.CertEnd.{CertEnd}
-use Rattle.obs_cert.specs.declared.fault.CertEnd.TheVariants as end
 use Rattle.obs_cert.specs.declared.fault.CertFault.{CertFault}
 
 -- a fault's number
@@ -25,12 +22,3 @@ cert_name AfterEnd = codes "AfterEnd"
 -- what is said of a certificate's fault: the certificate, the line, and the fault's number and name
 abbrev pub cert_fault : CertFault → Fault
 cert_fault fault = record { part = codes "certificate"; place = fault.line; code = cert_code fault.code; name = cert_name fault.code }
-
--- an input fault that says what a certificate's fault is
-abbrev pub IsOfCert : CertFault → InputFault → Type 0
-IsOfCert fault given = fault_of given ≡ cert_fault fault
-
--- what is said of a certificate that isn't read: its fault, or nothing where memory was wanting
-abbrev pub cert_end_fault : CertEnd → Option Fault
-cert_end_fault (end.Fault fault) = Some (cert_fault fault)
-cert_end_fault end.NoMemory = None

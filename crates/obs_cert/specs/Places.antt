@@ -1,5 +1,5 @@
 -- Where a line may stand, and what is wrong with one that may not.
-use Rattle.std.specs.Prelude.{◌≡◌, ℕ, Bool, true, false, List, Option, None, Some, Result, Ok, Err, if◌then◌else◌}
+use Rattle.std.specs.Prelude.{ℕ, Bool, true, false, List, Option, None, Some, Result, Ok, Err, if◌then◌else◌}
 use Rattle.obs_cert.specs.declared.fault.CertCode.{CertCode}
 use Rattle.obs_cert.specs.declared.fault.CertCode.TheVariants.{BadLine, OutOfPlace, AfterEnd}
 use Rattle.obs_cert.specs.declared.place.Place.{Place}
@@ -62,18 +62,6 @@ place_after place (layer_line from to rank outside) = layer_after place
 place_after place (inside_line item) = inside_after place
 place_after place end_line = Some End
 
--- whether a line starts a claim
-abbrev pub is_start : Line → Bool
-is_start (tree_line component) = true
-is_start (bound_line component rank outside) = true
-is_start (cost_line number) = true
-is_start (shortfall_line rank outside) = true
-is_start (pair_line pair) = false
-is_start (chosen_line candidate) = false
-is_start (layer_line from to rank outside) = false
-is_start (inside_line item) = false
-is_start end_line = false
-
 -- whether the line end stands before a place
 abbrev pub is_over : Place → Bool
 is_over Start = false
@@ -98,7 +86,3 @@ formed place (Some line) = in_place line (place_after place line)
 -- the line that bytes are at a place, with the place after it, or what is wrong with it
 abbrev pub step : Place → List ℕ → Result (Line × Place) CertCode
 step place bytes = if is_over place then Err AfterEnd else formed place (line_of bytes)
-
--- bytes are a line at a place, which starts a claim or doesn't, with this place after it
-abbrev pub Steps : Place → List ℕ → Bool → Place → Type 0
-Steps place bytes starts next = (line : Line) × (step place bytes ≡ Ok (line, next)) × (starts ≡ is_start line)

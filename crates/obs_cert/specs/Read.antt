@@ -1,11 +1,9 @@
 -- The claims that a certificate's bytes are, or the first fault.
-use Rattle.std.specs.Prelude.{ℕ, ◌+◌, ◌≡◌, List, [], ◌∷◌, length, Result, Ok, Err, if◌then◌else◌}
+use Rattle.std.specs.Prelude.{ℕ, ◌+◌, List, [], ◌∷◌, Result, Ok, Err, if◌then◌else◌}
 use Rattle.obs_text.specs.Lines.{lines_of}
 use Rattle.obs_cert.specs.declared.fault.CertCode.{CertCode}
 use Rattle.obs_cert.specs.declared.fault.CertCode.TheVariants.{NoEnd}
 use Rattle.obs_cert.specs.declared.fault.CertFault.{CertFault}
-use Rattle.obs_cert.specs.declared.fault.CertEnd.{CertEnd}
-use Rattle.obs_cert.specs.declared.fault.CertEnd.TheVariants.{Fault, NoMemory}
 use Rattle.obs_cert.specs.declared.place.Place.{Place}
 use Rattle.obs_cert.specs.declared.place.Place.TheVariants.{Start}
 use Rattle.obs_cert.specs.Claims.{Claim, Item, Layer, Pair, tree, bound, cost, shortfall}
@@ -67,17 +65,3 @@ claims_in (Err fault) = Err fault
 -- the claims that bytes are, or the first fault
 abbrev pub claims_of : List ℕ → Result (List Claim) CertFault
 claims_of bytes = claims_in (read_from Start 1 (lines_of bytes))
-
--- an answer that ends the reading: want of memory, or this fault
-abbrev pub EndsCert : Result (List Claim) CertFault → CertEnd → Type 0
-EndsCert stated (Fault fault) = stated ≡ Err fault
-EndsCert stated NoMemory = Unit {0}
-
--- the claims that were read, or none
-abbrev pub claims_or_none : Result (List Claim) CertFault → List Claim
-claims_or_none (Ok claims) = claims
-claims_or_none (Err fault) = []
-
--- bytes are so many claims
-abbrev pub HasClaims : List ℕ → ℕ → Type 0
-HasClaims bytes count = (claims : List Claim) × (claims_of bytes ≡ Ok claims) × (length claims ≡ count)

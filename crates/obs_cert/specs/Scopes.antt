@@ -1,5 +1,5 @@
 -- Which items a claim may speak of, as tests on their numbers, and what the case says of them.
-use Rattle.std.specs.Prelude.{◌≡◌, ℕ, ◌<◌, ◌-◌, ◌==◌, ◌||◌, ◌&&◌, Bool, true, false, nat_lt, Option, None, Some, List, length, filter, slice_index, slice_index_or}
+use Rattle.std.specs.Prelude.{ℕ, ◌-◌, ◌==◌, ◌||◌, ◌&&◌, Bool, false, nat_lt, Option, None, Some, List, length, filter, slice_index, slice_index_or}
 use Rattle.obs_case.specs.Tables.{Tables, node_names, place_of, prices_of}
 use Rattle.obs_meter.specs.Touches.{every_item, is_live, touch_at}
 use Rattle.obs_network.specs.Located.{component_of_item}
@@ -39,10 +39,6 @@ is_of_plan t chosen m = is_live_item t m && (is_meter t m || chosen m)
 -- the items that pass a test
 abbrev pub scope_of : Tables → (ℕ → Bool) → List ℕ
 scope_of t test = filter test (every_item (case_offered t))
-
--- only items pass the test
-abbrev pub OfItems : Tables → (ℕ → Bool) → Type 0
-OfItems t test = (m : ℕ) → test m ≡ true → m < length (case_offered t)
 
 -- whether a node names an energised component: it is the first node of the first bus of one
 abbrev pub names_at : Tables → ℕ → Bool

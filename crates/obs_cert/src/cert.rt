@@ -1,8 +1,9 @@
 // Certificates from bytes.
 ghost use Rattle.std.specs.Prelude.{◌≡◌, ◌<◌, ◌≤◌, ◌^◌, Ok, Err, length, IfErr, IfOk};
 ghost use Rattle.obs_text.specs.Limits.{most_file_bytes};
-ghost use Rattle.obs_cert.specs.Read.{EndsCert, HasClaims, claims_of};
-ghost use Rattle.obs_cert.specs.Walked.{parts_in};
+ghost use Rattle.obs_cert.specs.Read.{claims_of};
+ghost use Rattle.obs_cert.specs.inner.Read.{EndsCert, HasClaims};
+ghost use Rattle.obs_cert.specs.inner.Walked.{parts_in};
 
 use crate::fault::{CertCode, CertEnd, CertFault};
 use crate::place::{Place, is_over, step};
@@ -23,7 +24,8 @@ pub struct Cert {
 impl Model for Cert {
     ghost use Rattle.std.specs.Prelude.{◌<◌, ◌^◌, List};
     ghost use Rattle.obs_cert.specs.Claims.{Claim};
-    ghost use Rattle.obs_cert.specs.Read.{HasClaims, claims_of, claims_or_none};
+    ghost use Rattle.obs_cert.specs.Read.{claims_of};
+    ghost use Rattle.obs_cert.specs.inner.Read.{HasClaims, claims_or_none};
 
     ghost Value = { List Claim };
 

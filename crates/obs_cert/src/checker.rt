@@ -2,7 +2,7 @@
 ghost use Rattle.std.specs.Prelude.{◌≡◌, ◌+◌, None, Some, IfErr, IfOk, OnOk, length};
 ghost use Rattle.obs_network.specs.Network.{network_of, rows_of};
 ghost use Rattle.obs_cert.specs.Flaws.{first_flaw};
-ghost use Rattle.obs_cert.specs.Ready.{HasRoom};
+ghost use Rattle.obs_cert.specs.inner.Ready.{HasRoom};
 
 use crate::cert::Cert;
 use crate::claims::flaw_of;
@@ -30,7 +30,7 @@ pub struct Checker {
 impl Model for Checker {
     ghost use Rattle.std.specs.Prelude.{◌≡◌, ◌+◌, length};
     ghost use Rattle.obs_network.specs.Network.{Network};
-    ghost use Rattle.obs_cert.specs.Ready.{HasRoom};
+    ghost use Rattle.obs_cert.specs.inner.Ready.{HasRoom};
 
     ghost Value = { Network };
 

@@ -2,12 +2,13 @@
 ghost use Rattle.std.specs.Prelude.{◌≡◌, ◌∷◌, ℕ, Bool, false, suc, length};
 ghost use Rattle.obs_cert.specs.declared.flaw.FlawCode.TheVariants.{NotInside};
 ghost use Rattle.obs_cert.specs.Flaws.{bound_clauses, bound_flaw, first_true, flaw_of, list_clauses, not_inside, shortfall_flaw, tree_flaw, twice};
-ghost use Rattle.obs_cert.specs.InScope.{in_scope};
-ghost use Rattle.obs_cert.specs.Keys.{AreKeys};
+ghost use Rattle.obs_cert.specs.inner.InScope.{in_scope};
+ghost use Rattle.obs_cert.specs.inner.Keys.{AreKeys};
 ghost use Rattle.obs_cert.specs.Numbered.{items_of};
-ghost use Rattle.obs_cert.specs.Ready.{IsReady};
-ghost use Rattle.obs_cert.specs.Scopes.{OfItems, is_live_item, scope_of};
-ghost use Rattle.obs_cert.specs.Walked.{claim_said, parts_in};
+ghost use Rattle.obs_cert.specs.inner.Ready.{IsReady};
+ghost use Rattle.obs_cert.specs.Scopes.{is_live_item, scope_of};
+ghost use Rattle.obs_cert.specs.inner.Scopes.{OfItems};
+ghost use Rattle.obs_cert.specs.inner.Walked.{claim_said, parts_in};
 
 use crate::flaw::FlawCode;
 use crate::forests::{forest, has_pair_twice, has_unknown_pair};

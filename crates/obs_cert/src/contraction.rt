@@ -1,6 +1,6 @@
 // The graph of a case, where the rows of the branch table at one vertex may be contracted.
 ghost use Rattle.std.specs.Prelude.{◌≡◌, ◌<◌, ℕ, None, IfSome, slice_index_or};
-ghost use Rattle.obs_cert.specs.Contractions.{FitsIn, contracted, contracted_ends};
+ghost use Rattle.obs_cert.specs.inner.Contractions.{FitsIn, contracted, contracted_ends};
 
 use crate::joins::ends_of;
 use crate::links::has_link;

@@ -1,7 +1,8 @@
 // Why bytes are no certificate.
 ghost use Rattle.std.specs.Prelude.{◌≡◌, option_map};
-ghost use Rattle.obs_text.specs.Faults.{fault_of};
-ghost use Rattle.obs_cert.specs.Faults.{IsOfCert, cert_code, cert_end_fault, cert_name};
+ghost use Rattle.obs_text.specs.inner.Faults.{fault_of};
+ghost use Rattle.obs_cert.specs.Faults.{cert_code, cert_name};
+ghost use Rattle.obs_cert.specs.inner.Faults.{IsOfCert, cert_end_fault};
 
 use obs_text::InputFault;
 

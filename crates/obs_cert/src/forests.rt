@@ -2,12 +2,12 @@
 ghost use Rattle.std.specs.Prelude.{◌≡◌, ◌<◌, ◌+◌, [], ℕ, Bool, List, Some, IfNone, IfSome, suc, length};
 ghost use Rattle.obs_network.specs.Network.{case_position_room, rows_of};
 ghost use Rattle.obs_cert.specs.Flaws.{forest_clauses, first_true, paired_twice, twice, unknown_pair};
-ghost use Rattle.obs_cert.specs.Joins.{AreJoined};
-ghost use Rattle.obs_cert.specs.Marks.{AreBelow};
+ghost use Rattle.obs_cert.specs.inner.Joins.{AreJoined};
+ghost use Rattle.obs_cert.specs.inner.Marks.{AreBelow};
 ghost use Rattle.obs_cert.specs.Numbered.{pairs_of};
 ghost use Rattle.obs_cert.specs.declared.flaw.FlawCode.{FlawCode};
-ghost use Rattle.obs_cert.specs.Ready.{HasRoom, IsReady};
-ghost use Rattle.obs_cert.specs.Walked.{parts_in};
+ghost use Rattle.obs_cert.specs.inner.Ready.{HasRoom, IsReady};
+ghost use Rattle.obs_cert.specs.inner.Walked.{parts_in};
 
 use crate::flaw::FlawCode;
 use crate::lists::{has_twice, has_unknown};

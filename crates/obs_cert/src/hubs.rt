@@ -4,8 +4,8 @@ ghost use Rattle.obs_case.specs.Tables.{IsValid};
 ghost use Rattle.obs_graph.specs.Positions.{branches_at};
 ghost use Rattle.obs_matroid.specs.Lists.{In};
 ghost use Rattle.obs_network.specs.Network.{case_rows, network_of};
-ghost use Rattle.obs_cert.specs.Contractions.{FitsIn, IsContracted};
-ghost use Rattle.obs_cert.specs.Hubs.{Hubs};
+ghost use Rattle.obs_cert.specs.inner.Contractions.{FitsIn, IsContracted};
+ghost use Rattle.obs_cert.specs.inner.Hubs.{Hubs};
 ghost use Rattle.obs_cert.specs.Scopes.{touches_of};
 
 use crate::contraction::Contraction;
@@ -40,7 +40,7 @@ pub(crate) struct Hubs {
 
 impl Model for Hubs {
     ghost use Rattle.std.specs.Prelude.{◌≡◌, ◌≤◌, ◌<◌, ◌^◌, length, take};
-    ghost use Rattle.obs_cert.specs.Hubs.{Hubs};
+    ghost use Rattle.obs_cert.specs.inner.Hubs.{Hubs};
 
     ghost Value = { Hubs };
 

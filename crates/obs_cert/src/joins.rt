@@ -2,8 +2,8 @@
 ghost use Rattle.std.specs.Prelude.{◌≡◌, ◌↔◌, ◌<◌, ◌≤◌, ◌^◌, ◌+◌, ◌⊎◌, ◌∷◌, [], ℕ, List, None, IfSome, length, slice_index, slice_index_or, slice_set, take};
 ghost use Rattle.obs_graph.specs.declared.Ends.{Ends};
 ghost use Rattle.obs_graph.specs.Joined.{first_joined};
-ghost use Rattle.obs_cert.specs.Contractions.{FitsIn, contracted_ends};
-ghost use Rattle.obs_cert.specs.Joins.{AreFirsts, AreJoined, AreLow, AreWays, onto};
+ghost use Rattle.obs_cert.specs.inner.Contractions.{FitsIn, contracted_ends};
+ghost use Rattle.obs_cert.specs.inner.Joins.{AreFirsts, AreJoined, AreLow, AreWays, onto};
 
 use crate::contraction::{Contraction, contracted_ends};
 use obs_graph::{Ends, Graph};

@@ -1,7 +1,7 @@
 // How many live items are below a price, by keys that are sorted once for all claims.
 ghost use Rattle.std.specs.Prelude.{◌≡◌, ◌+◌, length};
 ghost use Rattle.obs_case.specs.Tables.{IsValid};
-ghost use Rattle.obs_cert.specs.Keys.{AreKeys, key_of, keys_of};
+ghost use Rattle.obs_cert.specs.inner.Keys.{AreKeys, key_of, keys_of};
 ghost use Rattle.obs_cert.specs.Scopes.{is_below, scope_of};
 
 use crate::scopes::{is_live, is_meter, price_at};

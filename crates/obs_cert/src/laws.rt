@@ -1,6 +1,6 @@
 //! What bytes are, what is read from them, and what claims that hold say of the case.
 ghost use Rattle.obs_cert.specs.Completing.{ChosenAreCheapest, ShortfallsRefute};
-ghost use Rattle.obs_cert.specs.Laws.{CertificateIsRead, FaultWhereNoCertificate, FirstFaultIsMet, FormsArePlain, LinesHaveForms};
+ghost use Rattle.obs_cert.specs.inner.Laws.{CertificateIsRead, FaultWhereNoCertificate, FirstFaultIsMet, FormsArePlain, LinesHaveForms};
 ghost use Rattle.obs_cert.specs.Truths.{BoundsAreNotObservable, NoFlawWhereAllHold, TreesAreObservable};
 
 /// Bytes are a line exactly where they are words of its form with one tab between each two. No word

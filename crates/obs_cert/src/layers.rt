@@ -4,11 +4,11 @@ ghost use Rattle.std.specs.List.{list_any, sum_by};
 ghost use Rattle.obs_graph.specs.declared.Ends.{Ends};
 ghost use Rattle.obs_network.specs.Network.{case_vertex_room};
 ghost use Rattle.obs_cert.specs.Flaws.{all_inside, listed_layers, not_below, not_inside, runs_on, shows, twice, wrong_outside, wrong_rank};
-ghost use Rattle.obs_cert.specs.Joins.{AreFree, AreJoined};
-ghost use Rattle.obs_cert.specs.Keys.{AreKeys};
+ghost use Rattle.obs_cert.specs.inner.Joins.{AreFree, AreJoined};
+ghost use Rattle.obs_cert.specs.inner.Keys.{AreKeys};
 ghost use Rattle.obs_cert.specs.Numbered.{items_of};
 ghost use Rattle.obs_cert.specs.Scopes.{is_below, is_live_item, scope_of};
-ghost use Rattle.obs_cert.specs.Seen.{Tells, too_dear};
+ghost use Rattle.obs_cert.specs.inner.Seen.{Tells, too_dear};
 
 use crate::contraction::Contraction;
 use crate::hubs::Hubs;

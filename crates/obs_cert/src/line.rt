@@ -3,7 +3,7 @@ ghost use Rattle.std.specs.Prelude.{◌≡◌, ◌∷◌};
 ghost use Rattle.std.specs.Option.{option_map};
 ghost use Rattle.std.specs.Str.{bytes_eq};
 ghost use Rattle.obs_text.specs.Numbers.{whole_of};
-ghost use Rattle.obs_cert.specs.Said.{item_said, line_said};
+ghost use Rattle.obs_cert.specs.inner.Said.{item_said, line_said};
 ghost use Rattle.obs_cert.specs.Words.{bound_of, item_in, line_of, line_of_words, name_in, of_five, of_four, of_one, of_three, of_two, pair_line_of, words_of};
 
 use crate::words::first_word;

@@ -3,7 +3,7 @@ ghost use Rattle.std.specs.Prelude.{◌≡◌, length};
 ghost use Rattle.std.specs.List.Sorted.{IsNonDecreasing};
 ghost use Rattle.obs_case.specs.Tables.{IsValid};
 ghost use Rattle.obs_meter.specs.Lost.{is_listed};
-ghost use Rattle.obs_cert.specs.Links.{AreLinks, link, link_of, links_of};
+ghost use Rattle.obs_cert.specs.inner.Links.{AreLinks, link, link_of, links_of};
 
 use crate::joins::ends_of;
 use obs_graph::Ends;

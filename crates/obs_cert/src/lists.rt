@@ -3,12 +3,12 @@ ghost use Rattle.std.specs.Prelude.{◌≡◌, ◌≤◌, ◌<◌, ◌^◌, ◌-
 ghost use Rattle.obs_graph.specs.declared.Ends.{Ends};
 ghost use Rattle.obs_case.specs.Tables.{IsValid};
 ghost use Rattle.obs_network.specs.Network.{case_branches, case_vertex_room, network_of};
-ghost use Rattle.obs_cert.specs.Contractions.{IsContraction, contracted_ends, contracted_rank};
+ghost use Rattle.obs_cert.specs.inner.Contractions.{IsContraction, contracted_ends, contracted_rank};
 ghost use Rattle.obs_cert.specs.Flaws.{not_inside, twice, unknown_item};
-ghost use Rattle.obs_cert.specs.Hubs.{AreHubs};
-ghost use Rattle.obs_cert.specs.InScope.{in_scope};
-ghost use Rattle.obs_cert.specs.Joins.{AreFree, AreJoined, AreWays, onto};
-ghost use Rattle.obs_cert.specs.Marks.{AreBelow, is_marked};
+ghost use Rattle.obs_cert.specs.inner.Hubs.{AreHubs};
+ghost use Rattle.obs_cert.specs.inner.InScope.{in_scope};
+ghost use Rattle.obs_cert.specs.inner.Joins.{AreFree, AreJoined, AreWays, onto};
+ghost use Rattle.obs_cert.specs.inner.Marks.{AreBelow, is_marked};
 ghost use Rattle.obs_cert.specs.Numbered.{items_of};
 ghost use Rattle.obs_meter.specs.Lost.{is_listed};
 ghost use Rattle.obs_cert.specs.Scopes.{price_at, touches_of};

@@ -1,6 +1,6 @@
 // Marks that need no clearing: each use has a stamp of its own, above all that came before.
 ghost use Rattle.std.specs.Prelude.{◌≡◌, ◌<◌, length, slice_set};
-ghost use Rattle.obs_cert.specs.Marks.{is_marked};
+ghost use Rattle.obs_cert.specs.inner.Marks.{is_marked};
 
 /// Marks a number with the stamp, and says whether it was marked so before.
 pub(crate) fn mark(marks: &mut [u32], stamp: u32, x: u32) -> bool

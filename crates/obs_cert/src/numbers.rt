@@ -1,7 +1,7 @@
 // Names as numbers: meters and candidates by one number, the meters first, and branches by position: the rows of the
 // branch table, and behind them the angle branches of items.
 ghost use Rattle.std.specs.Prelude.{◌≡◌, ◌≤◌, ◌+◌, IfSome, length};
-ghost use Rattle.obs_cert.specs.Said.{item_said};
+ghost use Rattle.obs_cert.specs.inner.Said.{item_said};
 ghost use Rattle.obs_network.specs.Network.{case_position_room};
 ghost use Rattle.obs_cert.specs.Numbered.{branch_in, branch_of, is_angle_item, is_known, is_known_branch, item_of};
 

@@ -5,8 +5,8 @@ ghost use Rattle.obs_graph.specs.declared.Ends.{Ends};
 ghost use Rattle.obs_matroid.specs.Assignments.{branches};
 ghost use Rattle.obs_network.specs.Network.{case_position_room, case_vertex_room};
 ghost use Rattle.obs_cert.specs.Flaws.{cycle, not_touched, rank_of_branches, twice, unknown_branch};
-ghost use Rattle.obs_cert.specs.Joins.{AreFree, AreJoined, AreWays, onto};
-ghost use Rattle.obs_cert.specs.Marks.{AreBelow};
+ghost use Rattle.obs_cert.specs.inner.Joins.{AreFree, AreJoined, AreWays, onto};
+ghost use Rattle.obs_cert.specs.inner.Marks.{AreBelow};
 ghost use Rattle.obs_cert.specs.Numbered.{pairs_of};
 
 use crate::joins::{clear, ends_of, join};

@@ -1,7 +1,8 @@
 // Where a line may stand.
 ghost use Rattle.std.specs.Prelude.{◌≡◌, Err, IfErr, IfOk};
-ghost use Rattle.obs_cert.specs.Places.{Steps, chosen_after, inside_after, is_over, is_start, layer_after, pair_after, place_after, step};
-ghost use Rattle.obs_cert.specs.Said.{line_said};
+ghost use Rattle.obs_cert.specs.Places.{chosen_after, inside_after, is_over, layer_after, pair_after, place_after, step};
+ghost use Rattle.obs_cert.specs.inner.Places.{Steps, is_start};
+ghost use Rattle.obs_cert.specs.inner.Said.{line_said};
 
 use crate::fault::CertCode;
 use crate::line::{Line, read_line};

@@ -4,11 +4,11 @@ ghost use Rattle.obs_meter.specs.Touches.{touch_at};
 ghost use Rattle.obs_network.specs.Located.{component_of_item};
 ghost use Rattle.obs_network.specs.Network.{is_meter, network_of};
 ghost use Rattle.obs_network.specs.Switched.{case_first_node};
-ghost use Rattle.obs_cert.specs.Marks.{is_marked};
+ghost use Rattle.obs_cert.specs.inner.Marks.{is_marked};
 ghost use Rattle.obs_meter.specs.Lost.{is_listed};
 ghost use Rattle.obs_cert.specs.Scopes.{is_live_item, is_this, named_component, named_need, names_at, names_component, price_at, touches_of};
 ghost use Rattle.obs_case.specs.Tables.{has_name, node_names};
-ghost use Rattle.obs_cert.specs.InScope.{in_scope};
+ghost use Rattle.obs_cert.specs.inner.InScope.{in_scope};
 
 use obs_case::Case;
 use obs_graph::Graph;

@@ -6,12 +6,12 @@ ghost use Rattle.obs_graph.specs.Positions.{branches_at};
 ghost use Rattle.obs_matroid.specs.Lists.{In};
 ghost use Rattle.obs_network.specs.Network.{case_offered, case_rows, case_vertex_room, network_of};
 ghost use Rattle.obs_cert.specs.Flaws.{rank_of_items};
-ghost use Rattle.obs_cert.specs.Joins.{AreFree, AreJoined};
-ghost use Rattle.obs_cert.specs.Links.{AreLinks};
+ghost use Rattle.obs_cert.specs.inner.Joins.{AreFree, AreJoined};
+ghost use Rattle.obs_cert.specs.inner.Links.{AreLinks};
 ghost use Rattle.obs_cert.specs.Numbered.{items_of};
 ghost use Rattle.obs_cert.specs.Scopes.{touches_of};
-ghost use Rattle.obs_cert.specs.Stars.{AreStarRanks, IsInjection, star_rank};
-ghost use Rattle.obs_cert.specs.Walked.{parts_in};
+ghost use Rattle.obs_cert.specs.inner.Stars.{AreStarRanks, IsInjection, star_rank};
+ghost use Rattle.obs_cert.specs.inner.Walked.{parts_in};
 
 use crate::contraction::Contraction;
 use crate::hubs::Hubs;

@@ -1,9 +1,9 @@
 // Walks over the lines of a certificate: its claims, and the pairs, layers and items of a claim.
 ghost use Rattle.std.specs.Prelude.{◌≡◌, ◌∷◌, [], IfNone, IfSome, option_map};
 ghost use Rattle.std.specs.Iterator.{item_count};
-ghost use Rattle.obs_cert.specs.Given.{GivesItem, GivesLayer, GivesPair, layer_said, pair_said};
-ghost use Rattle.obs_cert.specs.Said.{item_said, line_said};
-ghost use Rattle.obs_cert.specs.Walked.{claim_on, claim_said, is_layer, item_on, items_of_sort, layer_on, lines_in, pair_on, parts_in, sort_after};
+ghost use Rattle.obs_cert.specs.inner.Given.{GivesItem, GivesLayer, GivesPair, layer_said, pair_said};
+ghost use Rattle.obs_cert.specs.inner.Said.{item_said, line_said};
+ghost use Rattle.obs_cert.specs.inner.Walked.{claim_on, claim_said, is_layer, item_on, items_of_sort, layer_on, lines_in, pair_on, parts_in, sort_after};
 
 use crate::line::{Item, Line, read_line};
 use crate::place::starts;
@@ -136,7 +136,7 @@ pub(crate) struct Items<'a> {
 impl<'a> Model for Items<'a> {
     ghost use Rattle.std.specs.Prelude.{List};
     ghost use Rattle.obs_cert.specs.Claims.{Item};
-    ghost use Rattle.obs_cert.specs.Walked.{items_of_sort, parts_in};
+    ghost use Rattle.obs_cert.specs.inner.Walked.{items_of_sort, parts_in};
 
     ghost Value = { List Item };
 
@@ -197,7 +197,7 @@ pub(crate) struct Pairs<'a> {
 impl<'a> Model for Pairs<'a> {
     ghost use Rattle.std.specs.Prelude.{List};
     ghost use Rattle.obs_cert.specs.Claims.{Pair};
-    ghost use Rattle.obs_cert.specs.Walked.{parts_in};
+    ghost use Rattle.obs_cert.specs.inner.Walked.{parts_in};
 
     ghost Value = { List Pair };
 
@@ -283,7 +283,7 @@ pub(crate) struct Layers<'a> {
 impl<'a> Model for Layers<'a> {
     ghost use Rattle.std.specs.Prelude.{List};
     ghost use Rattle.obs_cert.specs.Claims.{Layer};
-    ghost use Rattle.obs_cert.specs.Walked.{parts_in};
+    ghost use Rattle.obs_cert.specs.inner.Walked.{parts_in};
 
     ghost Value = { List Layer };
 

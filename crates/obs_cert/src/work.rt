@@ -1,7 +1,7 @@
 // What claims are checked in.
 ghost use Rattle.std.specs.Prelude.{IfOk};
 ghost use Rattle.obs_network.specs.Network.{rows_of};
-ghost use Rattle.obs_cert.specs.Ready.{HasRoom, IsReady};
+ghost use Rattle.obs_cert.specs.inner.Ready.{HasRoom, IsReady};
 
 use crate::hubs::Hubs;
 use crate::joins::begin;

@@ -23,7 +23,7 @@ use Rattle.obs_cert.proofs.ClaimLemmas.{bound_rest, bound_right}
 use Rattle.obs_cert.proofs.ComponentLemmas.{meter_at, scope_same}
 use Rattle.obs_cert.proofs.OutsideLemmas.{meters_of_items, outside_is}
 use Rattle.obs_claimed.specs.Claimed.{component_bound}
-use Rattle.obs_claimed.specs.Laws.{BoundsHold}
+use Rattle.obs_claimed.specs.inner.Laws.{BoundsHold}
 use Rattle.obs_claimed.proofs.ClauseTests.{all_inside_scope, once}
 use Rattle.obs_claimed.proofs.ComponentNames.{component_known, component_named, component_names, component_need}
 use Rattle.obs_claimed.proofs.NamedLemmas.{items_named, none_unknown}

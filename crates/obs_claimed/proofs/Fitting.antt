@@ -17,7 +17,7 @@ use Rattle.obs_report.specs.Trees.{pair_lines, tree_line, tree_text}
 use Rattle.obs_repair.specs.Bounds.{bound_meters, bound_outside, bound_rank, component_meters, is_critical_meter}
 use Rattle.obs_edit.specs.Answers.{case_first_pairs}
 use Rattle.obs_edit.specs.Laws.{tree_pairs}
-use Rattle.obs_claimed.specs.Laws.{TreesAndBoundsFit}
+use Rattle.obs_claimed.specs.inner.Laws.{TreesAndBoundsFit}
 use Rattle.obs_claimed.proofs.LineLengths.{bound_line-length, each_length, inside_length, pair_length, tree_line-length}
 use Rattle.obs_claimed.proofs.PlanLengths.{first_pairs_few}
 use Rattle.obs_claimed.proofs.Small.{bound_outside_small, bound_rank_small, filter_few, live_few}

@@ -13,7 +13,8 @@ use Rattle.obs_meter.specs.Touches.{every_item, live_items}
 use Rattle.obs_meter.proofs.Assigned.{every_item-distinct}
 use Rattle.obs_meter.proofs.Live.{In-every, In-live, live-from_live_items}
 use Rattle.obs_placement.specs.declared.plans.Layer.{Layer as PlacedLayer}
-use Rattle.obs_placement.specs.Layers.{layer_items, layer_outside}
+use Rattle.obs_placement.specs.Layers.{layer_outside}
+use Rattle.obs_placement.specs.inner.Layers.{layer_items}
 use Rattle.obs_placement.specs.Shown.{bare_layer}
 use Rattle.obs_placement.specs.Taking.{scope_of as placed_scope}
 use Rattle.obs_placement.proofs.Growing.{AreRising, own_grows, own_in, scope_distinct as placed_distinct}

@@ -11,12 +11,12 @@ use Rattle.obs_text.specs.Lines.{content, is_feed, lines_of}
 use Rattle.obs_text.specs.Names.{is_name_byte}
 use Rattle.obs_text.proofs.LineLaws.{ended_first, parts}
 use Rattle.obs_matroid.specs.Lists.{In}
-use Rattle.obs_cert.specs.Forms.{HasForm, with_tabs}
+use Rattle.obs_cert.specs.inner.Forms.{HasForm, with_tabs}
 use Rattle.obs_cert.specs.Words.{Line, line_of}
 use Rattle.obs_cert.proofs.FormLemmas.{FormsArePlain-holds, LinesHaveForms-holds}
 use Rattle.obs_cert.proofs.WordLemmas.{not_control}
 use Rattle.obs_report.specs.Lines.{line_of as printed, line_feed, tab, tabbed}
-use Rattle.obs_claimed.specs.Laws.{AreLines}
+use Rattle.obs_claimed.specs.inner.Laws.{AreLines}
 
 -- no byte of a word is a control byte
 abbrev pub IsPlain : List ℕ → Type 0

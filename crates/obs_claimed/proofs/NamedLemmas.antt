@@ -11,7 +11,8 @@ use Rattle.obs_case.proofs.NameLemmas.{bytes_eq-itself}
 use Rattle.obs_matroid.specs.Assignments.{Pair as NumberPair, items}
 use Rattle.obs_matroid.specs.Lists.{In}
 use Rattle.obs_network.specs.Network.{case_item_count, case_position_room}
-use Rattle.obs_report.specs.Items.{IsBranchOf, branch_name, branch_word, candidate_name, meter_name}
+use Rattle.obs_report.specs.Items.{branch_name, branch_word, candidate_name, meter_name}
+use Rattle.obs_report.specs.inner.Items.{IsBranchOf}
 use Rattle.obs_cert.specs.Claims.{Item}
 use Rattle.obs_cert.specs.Flaws.{unknown_branch, unknown_item, unknown_pair}
 use Rattle.obs_cert.specs.Numbered.{branch_in, branch_of, chosen_items, is_angle_item, is_known, is_known_branch, item_of, items_of, paired_items, pairs_of}

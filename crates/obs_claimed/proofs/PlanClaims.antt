@@ -35,7 +35,7 @@ use Rattle.obs_cert.specs.Scopes.{is_below, is_of_plan, price_at}
 use Rattle.obs_cert.proofs.CompletingLemmas.{bare, same_sum, sum_is}
 use Rattle.obs_report.proofs.OfPairs.{offered_branch}
 use Rattle.obs_claimed.specs.Claimed.{named_items, named_layers, placement_claim, plan_claim}
-use Rattle.obs_claimed.specs.Laws.{PlacementsHold}
+use Rattle.obs_claimed.specs.inner.Laws.{PlacementsHold}
 use Rattle.obs_claimed.proofs.ClauseTests.{distinct-moved, once}
 use Rattle.obs_claimed.proofs.Lacks.{lack_holds}
 use Rattle.obs_claimed.proofs.LayerClaims.{are_below, bare_same, inside_distinct, layers_counted, layers_inside, layers_ranked, listed_all, run_from}

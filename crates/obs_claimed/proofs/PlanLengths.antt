@@ -37,7 +37,7 @@ use Rattle.obs_report.specs.Lines.{last_line}
 use Rattle.obs_report.specs.Placements.{chosen_line, cost_line, layer_line, layers_text, listed_between, placement_text, shortfall_line}
 use Rattle.obs_edit.specs.Planned.{case_placed_pairs, case_placement, pairs_in, planned_items, touches_of}
 use Rattle.obs_edit.proofs.Planned.{length-touches_of}
-use Rattle.obs_claimed.specs.Laws.{PlacementsFit}
+use Rattle.obs_claimed.specs.inner.Laws.{PlacementsFit}
 use Rattle.obs_claimed.proofs.LayerClaims.{inside_distinct}
 use Rattle.obs_claimed.proofs.Layered.{added, inside_from, inside_low, layers_from}
 use Rattle.obs_claimed.proofs.LineLengths.{chosen_length, cost_length, each_length, inside_length, layer_length, pair_length, shortfall_length}

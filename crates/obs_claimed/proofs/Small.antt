@@ -20,7 +20,7 @@ use Rattle.obs_rankcut.specs.Costs.{price_of}
 use Rattle.obs_placement.specs.declared.plans.Layer.{Layer}
 use Rattle.obs_placement.specs.Answer.{chosen_of, cost_of, is_chosen}
 use Rattle.obs_placement.specs.Layers.{added_items, is_price_of, layers_of, prices_above}
-use Rattle.obs_placement.specs.Limits.{most_price}
+use Rattle.obs_placement.specs.inner.Limits.{most_price}
 use Rattle.obs_placement.specs.Placed.{shortfall_of, plan_of}
 use Rattle.obs_placement.specs.Taking.{is_below, is_listed_at}
 use Rattle.obs_network.specs.Network.{case_branches, case_meters, case_offered, case_vertex_count}

@@ -12,7 +12,7 @@ use Rattle.obs_placement.specs.declared.plans.Layer.{Layer as PlacedLayer}
 use Rattle.obs_placement.specs.Placed.{ShortfallValue, PlanValue, shortfall_of, plan_of}
 use Rattle.obs_placement.specs.Placed.Placed.{cheapest, shortfall as short_of}
 use Rattle.obs_network.specs.Network.{case_branches, case_item_count, case_needed, case_offered, case_vertex_count}
-use Rattle.obs_cert.specs.Certificate.{claim_lines, joined, layer_lines}
+use Rattle.obs_cert.specs.inner.Certificate.{claim_lines, joined, layer_lines}
 use Rattle.obs_cert.specs.Words.{bound_line, chosen_line, cost_line, inside_line, layer_line, pair_line, shortfall_line, tree_line}
 use Rattle.obs_report.specs.Items.{candidate_name, inside_line as inside_text, pair_line as pair_text}
 use Rattle.obs_report.specs.Meters.{component_name, bound_line as bound_text}
@@ -24,7 +24,7 @@ use Rattle.obs_edit.specs.Laws.{tree_pairs}
 use Rattle.obs_edit.specs.Planned.{case_placed_pairs}
 use Rattle.obs_network.specs.Observable.{branch_component}
 use Rattle.obs_claimed.specs.Claimed.{component_bound, component_tree, named_item, named_items, named_layers, named_pair, placement_claim}
-use Rattle.obs_claimed.specs.Laws.{AreLines, BoundsAreLines, PlacementsAreLines, TreesAreLines}
+use Rattle.obs_claimed.specs.inner.Laws.{AreLines, BoundsAreLines, PlacementsAreLines, TreesAreLines}
 use Rattle.obs_claimed.proofs.Lines.{each_line, lines_then, no_lines}
 use Rattle.obs_claimed.proofs.NamedLemmas.{AreWithin}
 use Rattle.obs_claimed.proofs.Small.{IsSmallLayer, bound_outside_small, bound_rank_small, cost_small, lack_outside_small, lack_rank_small, plan_layers_small}

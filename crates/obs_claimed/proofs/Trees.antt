@@ -19,7 +19,7 @@ use Rattle.obs_repair.specs.Bounds.{component_meters}
 use Rattle.obs_edit.specs.Laws.{tree_pairs}
 use Rattle.obs_edit.proofs.FirstTrees.{tree_first, tree_whole}
 use Rattle.obs_claimed.specs.Claimed.{component_tree, named_pair}
-use Rattle.obs_claimed.specs.Laws.{TreesHold}
+use Rattle.obs_claimed.specs.inner.Laws.{TreesHold}
 use Rattle.obs_claimed.proofs.Bounds.{component_meter, meter_touches_same}
 use Rattle.obs_claimed.proofs.ClauseTests.{all_inside_scope}
 use Rattle.obs_claimed.proofs.ComponentNames.{component_known, component_named, component_names, component_need}

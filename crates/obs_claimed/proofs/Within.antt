@@ -28,7 +28,8 @@ use Rattle.obs_network.specs.Observable.{case_live_meters}
 use Rattle.obs_network.proofs.Marked.{filtered_below}
 use Rattle.obs_network.proofs.OfCase.{case_branches-are, length-case_meters, length-case_offered}
 use Rattle.obs_rankcut.specs.Costs.{price_of}
-use Rattle.obs_report.specs.Items.{IsBranchOf, branch_name, branch_word, candidate_name, item_name, meter_name}
+use Rattle.obs_report.specs.Items.{branch_name, branch_word, candidate_name, item_name, meter_name}
+use Rattle.obs_report.specs.inner.Items.{IsBranchOf}
 use Rattle.obs_report.specs.Meters.{component_name}
 use Rattle.obs_report.proofs.OfPairs.{meter_branch, offered_branch}
 use Rattle.obs_repair.specs.Bounds.{bound_meters, component_meters, is_critical_meter, is_meter_of}

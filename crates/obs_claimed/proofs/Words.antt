@@ -8,7 +8,7 @@ use Rattle.obs_text.proofs.DecimalLemmas.{whole_of-decimal}
 use Rattle.obs_case.specs.Tables.{Tables}
 use Rattle.obs_matroid.specs.Assignments.{Pair as NumberPair}
 use Rattle.obs_placement.specs.declared.plans.Layer.{Layer as PlacedLayer}
-use Rattle.obs_cert.specs.Forms.{Write, claimed_name, sort_word}
+use Rattle.obs_cert.specs.inner.Forms.{Write, claimed_name, sort_word}
 use Rattle.obs_cert.specs.Words.{bound_line, chosen_line, cost_line, end_line, inside_line, layer_line, pair_line, shortfall_line, tree_line}
 use Rattle.obs_network.specs.Network.{is_meter}
 use Rattle.obs_report.specs.Items.{branch_word, candidate_name, item_name, item_word, inside_line as inside_text, pair_line as pair_text}
@@ -16,7 +16,7 @@ use Rattle.obs_report.specs.Meters.{bound_line as bound_text}
 use Rattle.obs_report.specs.Placements.{chosen_line as chosen_text, cost_line as cost_text, layer_line as layer_text, shortfall_line as shortfall_text}
 use Rattle.obs_report.specs.Trees.{tree_line as tree_text}
 use Rattle.obs_claimed.specs.Claimed.{named_item, named_pair}
-use Rattle.obs_claimed.specs.Laws.{AreLines, LastIsLine}
+use Rattle.obs_claimed.specs.inner.Laws.{AreLines, LastIsLine}
 use Rattle.obs_claimed.proofs.Lines.{line_back}
 
 -- a number that is read back from its decimal text

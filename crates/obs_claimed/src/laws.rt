@@ -1,5 +1,5 @@
 //! What is printed of a case is a certificate that holds, and fits a file.
-ghost use Rattle.obs_claimed.specs.Laws.{BoundsAreLines, BoundsHold, CompleteAlike, CostAlike, LastIsLine, PlacementsAreLines, PlacementsFit, PlacementsHold, TreesAndBoundsFit, TreesAreLines, TreesHold};
+ghost use Rattle.obs_claimed.specs.inner.Laws.{BoundsAreLines, BoundsHold, CompleteAlike, CostAlike, LastIsLine, PlacementsAreLines, PlacementsFit, PlacementsHold, TreesAndBoundsFit, TreesAreLines, TreesHold};
 
 /// A printed text is the lines of the claim that it means, and the last line ends a certificate.
 pub fn texts_are_lines()

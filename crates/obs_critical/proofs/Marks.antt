@@ -8,11 +8,12 @@ use Rattle.obs_matroid.proofs.Lists.{filter_same}
 use Rattle.obs_meter.specs.declared.Touch.{Touch}
 use Rattle.obs_meter.specs.Touches.{every_item, is_live}
 use Rattle.obs_meter.proofs.Touched.{live-from_In}
-use Rattle.obs_assign.specs.Assignment.{Assignment, branch_at}
+use Rattle.obs_assign.specs.Assignment.{Assignment}
+use Rattle.obs_assign.specs.inner.Assignment.{branch_at}
 use Rattle.obs_exchange.specs.Critical.{critical_at, critical_meters}
-use Rattle.obs_exchange.specs.Laws.{HasClosedSet, IsThawed}
+use Rattle.obs_exchange.specs.inner.Laws.{HasClosedSet, IsThawed}
 use Rattle.obs_exchange.proofs.Lawful.{critical_at-marks}
-use Rattle.obs_critical.specs.Listed.{is_unmarked_pair}
+use Rattle.obs_critical.specs.inner.Listed.{is_unmarked_pair}
 
 -- a live meter without a pair is marked, and a meter with a pair is live
 pub unmarked_live : (a : Assignment) (g : Graph) (touches : List Touch) (S : ℕ → Bool) → HasClosedSet a g touches S → (m : ℕ) → is_unmarked_pair a S m ≡ (is_live g.ends touches m && not (S m))

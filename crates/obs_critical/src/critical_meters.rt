@@ -1,11 +1,12 @@
 // The critical meters.
 ghost use Rattle.std.specs.Prelude.{◌≡◌, ◌<◌, ◌≤◌, ℕ, [], false, filter, length, take, IfOk};
-ghost use Rattle.obs_meter.specs.Touches.{AreInRange, every_item};
-ghost use Rattle.obs_assign.specs.Assignment.{StandsOver, has_flag, is_frozen};
+ghost use Rattle.obs_meter.specs.Touches.{every_item};
+ghost use Rattle.obs_meter.specs.inner.Touches.{AreInRange};
+ghost use Rattle.obs_assign.specs.inner.Assignment.{StandsOver, has_flag, is_frozen};
 ghost use Rattle.obs_exchange.specs.declared.Sources.TheVariants.{All};
-ghost use Rattle.obs_exchange.specs.Closed.{IsLeastClosedAt};
+ghost use Rattle.obs_exchange.specs.inner.Closed.{IsLeastClosedAt};
 ghost use Rattle.obs_exchange.specs.Critical.{critical_meters};
-ghost use Rattle.obs_critical.specs.Listed.{is_unmarked_pair};
+ghost use Rattle.obs_critical.specs.inner.Listed.{is_unmarked_pair};
 
 use crate::memory::NoMemory;
 use obs_assign::Assignment;
@@ -24,7 +25,7 @@ pub struct CriticalWork {
 
 impl Model for CriticalWork {
     ghost use Rattle.std.specs.Prelude.{◌≤◌, length, take};
-    ghost use Rattle.obs_critical.specs.Listed.{CriticalWork};
+    ghost use Rattle.obs_critical.specs.inner.Listed.{CriticalWork};
 
     ghost Value = { CriticalWork };
 

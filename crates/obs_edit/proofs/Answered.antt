@@ -5,8 +5,9 @@ use Rattle.obs_case.specs.Tables.{IsValid, Tables}
 use Rattle.obs_matroid.specs.Assignments.{Pair}
 use Rattle.obs_meter.specs.Held.{Meters}
 use Rattle.obs_meter.proofs.Assigned.{every-to_live, live-to_every}
-use Rattle.obs_assign.specs.Assignment.{Assignment, IsWhole, StandsOver, pairs}
-use Rattle.obs_exchange.specs.Laws.{IsThawed}
+use Rattle.obs_assign.specs.Assignment.{Assignment}
+use Rattle.obs_assign.specs.inner.Assignment.{IsWhole, StandsOver, pairs}
+use Rattle.obs_exchange.specs.inner.Laws.{IsThawed}
 use Rattle.obs_first.specs.First.{first_pairs}
 use Rattle.obs_first.proofs.Lawful.{first_pairs-is}
 use Rattle.obs_islands.specs.Firsts.{islands_of}
@@ -14,9 +15,9 @@ use Rattle.obs_network.specs.Network.{case_branches, case_meters, case_vertex_co
 use Rattle.obs_network.proofs.OfCase.{case_branches-are}
 use Rattle.obs_assign.proofs.Slotted.{some_same}
 use Rattle.obs_edit.specs.Answers.{case_first_pairs, case_islands}
-use Rattle.obs_edit.specs.Sessions.{case_bound}
+use Rattle.obs_edit.specs.inner.Sessions.{case_bound}
 use Rattle.obs_repair.specs.Bounds.{bound_meters, bound_outside, bound_rank}
-use Rattle.obs_repair.specs.Kept.{AreLongest}
+use Rattle.obs_repair.specs.inner.Kept.{AreLongest}
 
 pub first_of_network : (t : Tables) (g : Graph) (ms : Meters) → g ≡ (network_of t).graph → ms ≡ (network_of t).meters → first_pairs g.vertices g.ends ms.touches ≡ case_first_pairs t
 unfolding case_first_pairs

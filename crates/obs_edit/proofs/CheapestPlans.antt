@@ -12,7 +12,7 @@ use Rattle.obs_matroid.proofs.Lists.{In-filter_from, filter_all}
 use Rattle.obs_meter.specs.Assignments.{IsRhoAt, rho_at}
 use Rattle.obs_meter.specs.Touches.{is_live, live_items}
 use Rattle.obs_meter.proofs.Assigned.{live_items-distinct, rho_at-is}
-use Rattle.obs_placement.specs.Laws.{answer_at}
+use Rattle.obs_placement.specs.inner.Laws.{answer_at}
 use Rattle.obs_placement.specs.Placed.{ShortfallValue, PlanValue}
 use Rattle.obs_placement.specs.Shown.{bare_layer}
 use Rattle.obs_placement.proofs.Costed.{layers_are_shown, layers_show_the_cost}
@@ -22,7 +22,8 @@ use Rattle.obs_placement.proofs.Refuting.{bound_reached, bound_refutes, none_for
 use Rattle.obs_network.specs.Network.{case_branches, case_needed, case_offered, case_vertex_count}
 use Rattle.obs_network.proofs.Observed.{most_pairs}
 use Rattle.obs_network.proofs.OfCase.{case_branches-are, length-case_offered}
-use Rattle.obs_rankcut.specs.Costs.{DoAsMuch, live_meters}
+use Rattle.obs_rankcut.specs.Costs.{live_meters}
+use Rattle.obs_rankcut.specs.inner.Costs.{DoAsMuch}
 use Rattle.obs_rankcut.proofs.Costs.{layers_bound_completing}
 use Rattle.obs_edit.proofs.PlanFirst.{plan_pairs_first}
 use Rattle.obs_edit.specs.Placements.{CompletesCase, IsBoundOf, LayersAddUp, LayersAreBounds, LayersBoundCosts, PlansAreCheapest, PlansComplete, PlansHaveFirstPairs, ShortfallsRefute, chosen_items, price_together}

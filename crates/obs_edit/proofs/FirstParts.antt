@@ -4,10 +4,13 @@ use Rattle.std.specs.Prelude.{cond, ◌==◌}
 use Rattle.std.proofs.lemmas.Bool.{cases_Bool, eq-eqb, eqb-true, ne_eqb, not-true}
 use Rattle.std.proofs.lemmas.List.{map-append}
 use Rattle.obs_matroid.specs.Lists.{In, IsDistinct}
-use Rattle.obs_matroid.specs.Matroid.{IsIndependent, IsMatroid, Matroid}
-use Rattle.obs_matroid.specs.Assignments.{IsAssignment, Pair, branches, items, part}
-use Rattle.obs_matroid.specs.Components.{IsSumOfKinds, is_of}
-use Rattle.obs_matroid.specs.First.{IsFirst, IsNotAfter, branch_at}
+use Rattle.obs_matroid.specs.Matroid.{IsIndependent, Matroid}
+use Rattle.obs_matroid.specs.inner.Matroid.{IsMatroid}
+use Rattle.obs_matroid.specs.Assignments.{IsAssignment, Pair, branches, items}
+use Rattle.obs_matroid.specs.inner.Assignments.{part}
+use Rattle.obs_matroid.specs.inner.Components.{IsSumOfKinds, is_of}
+use Rattle.obs_matroid.specs.First.{IsNotAfter, branch_at}
+use Rattle.obs_matroid.specs.inner.First.{IsFirst}
 use Rattle.obs_matroid.proofs.Bounds.{length-parts}
 use Rattle.obs_matroid.proofs.Comparing.{branch_at_out, IsBefore-irreflexive}
 use Rattle.obs_matroid.proofs.Components.{free_together}

@@ -8,7 +8,8 @@ use Rattle.obs_matroid.specs.Lists.{In, IsDistinct, IsRising}
 use Rattle.obs_matroid.specs.Values.{first_of}
 use Rattle.obs_matroid.proofs.Comparing.{first_unique}
 use Rattle.obs_matroid.proofs.Computed.{first_of_is}
-use Rattle.obs_matroid.specs.Assignments.{Pair, branches, items, part}
+use Rattle.obs_matroid.specs.Assignments.{Pair, branches, items}
+use Rattle.obs_matroid.specs.inner.Assignments.{part}
 use Rattle.obs_matroid.proofs.Bounds.{length-branches}
 use Rattle.obs_matroid.proofs.Lists.{In-filter, IsDistinct-filter, In-filter_from, filter_same}
 use Rattle.obs_matroid.proofs.Pairs.{In-branches_from, items_within}

@@ -7,7 +7,8 @@ use Rattle.obs_matroid.specs.Lists.{In}
 use Rattle.obs_meter.specs.Assignments.{IsRhoAt}
 use Rattle.obs_meter.specs.Spanned.{ends_at}
 use Rattle.obs_meter.specs.Touches.{touch_at}
-use Rattle.obs_islands.specs.Firsts.{LiesBetweenAt, island_first}
+use Rattle.obs_islands.specs.Firsts.{island_first}
+use Rattle.obs_islands.specs.inner.Firsts.{LiesBetweenAt}
 use Rattle.obs_islands.specs.Islands.{IsFirstIn}
 use Rattle.obs_islands.proofs.Between.{between_islands_raise, ends_are}
 use Rattle.obs_islands.proofs.Firsts.{first_in, first_same, partition}

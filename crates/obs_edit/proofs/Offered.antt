@@ -7,10 +7,10 @@ use Rattle.obs_case.specs.Tables.{Tables, prices_of}
 use Rattle.obs_case.specs.declared.rows.Candidate.{Candidate}
 use Rattle.obs_meter.specs.declared.Touch.{Touch}
 use Rattle.obs_meter.specs.Held.{Meters}
-use Rattle.obs_meter.specs.Sizes.{HasRoomFor, Sizes}
+use Rattle.obs_meter.specs.inner.Sizes.{HasRoomFor, Sizes}
 use Rattle.obs_network.specs.Network.{Network, case_branches, case_needed, case_offered, case_vertex_count, network_of}
 use Rattle.obs_network.proofs.OfCase.{case_vertex_count-le, length-case_branches, length-case_offered}
-use Rattle.obs_edit.specs.Planned.{offered_room}
+use Rattle.obs_edit.specs.inner.Planned.{offered_room}
 
 module _ (t : Tables) (n : Network) (g : Graph) (i : Meters) (same : n ≡ network_of t) (graph_is : g ≡ (network_of t).graph) (offered : i ≡ n.offered) where
   touches_are : i.touches ≡ case_offered t

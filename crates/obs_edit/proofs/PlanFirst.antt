@@ -15,7 +15,8 @@ use Rattle.obs_matroid.proofs.Pairs.{In-items_from}
 use Rattle.obs_matroid.proofs.Ranges.{range_from, range_rising, rising_filter}
 use Rattle.obs_meter.specs.declared.Touch.{Touch}
 use Rattle.obs_meter.specs.Assignments.{IsAssignmentAt, rho_at}
-use Rattle.obs_meter.specs.Lost.{left_of, losing}
+use Rattle.obs_meter.specs.Lost.{losing}
+use Rattle.obs_meter.specs.inner.Lost.{left_of}
 use Rattle.obs_meter.specs.Touches.{every_item, live_items}
 use Rattle.obs_meter.proofs.Lost.{assignment-left, assignment-lost}
 use Rattle.obs_forest.specs.Forest.{has_position}

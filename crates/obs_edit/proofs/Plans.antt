@@ -2,10 +2,11 @@
 use Rattle.std.proofs.Common.{◌≡◌, ◌∙◌, Bool, false, refl, sym, subst}
 use Rattle.obs_case.specs.Tables.{Tables}
 use Rattle.obs_matroid.proofs.Lists.{clash}
-use Rattle.obs_assign.specs.Assignment.{StandsOver, pairs}
+use Rattle.obs_assign.specs.inner.Assignment.{StandsOver, pairs}
 use Rattle.obs_network.specs.Network.{case_offered, network_of}
-use Rattle.obs_edit.specs.Planned.{Planning, case_placed_pairs, case_placement, new_planning}
-use Rattle.obs_edit.specs.Sessions.{IsPlacing}
+use Rattle.obs_edit.specs.Planned.{case_placed_pairs, case_placement}
+use Rattle.obs_edit.specs.inner.Planned.{Planning, new_planning}
+use Rattle.obs_edit.specs.inner.Sessions.{IsPlacing}
 
 -- as it is made, where none is at hand
 placing_made : (t : Tables) (offered at_hand : Bool) → at_hand ≡ false → IsPlacing t offered at_hand (new_planning offered t)

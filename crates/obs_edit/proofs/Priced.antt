@@ -4,7 +4,7 @@ use Rattle.std.proofs.lemmas.List.{length-map}
 use Rattle.std.proofs.lemmas.List.Elements.{All-map}
 use Rattle.obs_case.specs.Tables.{IsValid, Tables, prices_of}
 use Rattle.obs_case.specs.declared.rows.Candidate.{Candidate}
-use Rattle.obs_placement.specs.Limits.{most_candidates, most_price}
+use Rattle.obs_placement.specs.inner.Limits.{most_candidates, most_price}
 
 -- there are no more than may be offered
 pub few_prices : (t : Tables) (prices : List ℕ) → IsValid t → prices ≡ prices_of t.candidates → length prices ≤ most_candidates

@@ -4,17 +4,18 @@ use Rattle.std.proofs.lemmas.Bool.{false≢true}
 use Rattle.obs_case.specs.Tables.{Tables, prices_of}
 use Rattle.obs_assign.specs.Assignment.{Assignment}
 use Rattle.obs_assign.proofs.Slotted.{none_some}
-use Rattle.obs_critical.specs.Listed.{CriticalWork}
-use Rattle.obs_islands.specs.IslandWork.{IslandWork}
-use Rattle.obs_network.specs.Network.{Network, Rows, case_position_count, rows_of}
-use Rattle.obs_meter.specs.Sizes.{Sizes}
+use Rattle.obs_critical.specs.inner.Listed.{CriticalWork}
+use Rattle.obs_islands.specs.inner.IslandWork.{IslandWork}
+use Rattle.obs_network.specs.Network.{Network, Rows, rows_of}
+use Rattle.obs_network.specs.inner.Network.{case_position_count}
+use Rattle.obs_meter.specs.inner.Sizes.{Sizes}
 use Rattle.obs_repair.specs.declared.edit.Edit.{Edit}
 use Rattle.obs_edit.specs.declared.hand.AtHand.{AtHand}
 use Rattle.obs_repair.specs.Edits.{edited}
-use Rattle.obs_repair.specs.Parts.{BoundsWhereKnown, Parts}
-use Rattle.obs_edit.specs.Edits.{nothing_at_hand}
-use Rattle.obs_edit.specs.Planned.{Planning, offered_room}
-use Rattle.obs_edit.specs.Sessions.{AreAnswers, BoundOf, HasRoomToAnswer, IsPlacing}
+use Rattle.obs_repair.specs.inner.Parts.{BoundsWhereKnown, Parts}
+use Rattle.obs_edit.specs.inner.Edits.{nothing_at_hand}
+use Rattle.obs_edit.specs.inner.Planned.{Planning, offered_room}
+use Rattle.obs_edit.specs.inner.Sessions.{AreAnswers, BoundOf, HasRoomToAnswer, IsPlacing}
 use Rattle.obs_repair.proofs.Sets.{sizes-edited}
 use Rattle.obs_repair.proofs.Flagged.{positions-edited, rows-edited, same_candidates}
 

@@ -1,5 +1,5 @@
 -- The plan of a placement: its items, what these touch, and its pairs.
-use Rattle.std.specs.Prelude.{◌≡◌, ℕ, ◌+◌, Bool, not, if◌then◌else◌, Option, List, [], ◌++◌, length, map}
+use Rattle.std.specs.Prelude.{◌≡◌, ℕ, ◌+◌, not, Option, List, [], ◌++◌, length, map}
 use Rattle.std.specs.List.{range_with_len}
 use Rattle.obs_graph.specs.declared.Ends.{Ends}
 use Rattle.obs_graph.specs.Positions.{AreBranches}
@@ -7,15 +7,12 @@ use Rattle.obs_case.specs.Tables.{Tables, prices_of}
 use Rattle.obs_matroid.specs.Assignments.{Pair}
 use Rattle.obs_meter.specs.declared.Touch.{Touch}
 use Rattle.obs_meter.specs.Lost.{losing}
-use Rattle.obs_meter.specs.Sizes.{Sizes}
 use Rattle.obs_forest.specs.Forest.{has_position}
-use Rattle.obs_assign.specs.Assignment.{Assignment}
 use Rattle.obs_first.specs.First.{IsFirstAt, first_pairs}
 use Rattle.obs_placement.specs.Answer.{chosen_of}
-use Rattle.obs_placement.specs.Choosing.{no_pairs, nothing_placed}
 use Rattle.obs_placement.specs.Placed.{Placed, PlanValue, placement_of}
 use Rattle.obs_placement.specs.Placed.Placed.{cheapest, shortfall}
-use Rattle.obs_network.specs.Network.{case_branches, case_needed, case_offered, case_position_count, case_vertex_count, case_vertex_room}
+use Rattle.obs_network.specs.Network.{case_branches, case_needed, case_offered, case_vertex_count}
 
 -- the items of a plan: the meters, and then the candidates at these positions
 abbrev pub planned_items : ℕ → List ℕ → List ℕ
@@ -50,36 +47,3 @@ case_placement t =
 abbrev pub case_placed_pairs : Tables → List Pair
 case_placed_pairs t =
     placed_pairs (case_vertex_count t) (case_branches t) (case_offered t) (length t.meters) (prices_of t.candidates) (case_needed t)
-
--- the sizes of a work value for a case where candidates count as meters
-abbrev pub offered_room : Tables → Sizes
-offered_room t = record { meters = length t.meters + length t.candidates; branches = case_position_count t; vertices = case_vertex_room t }
-
--- no rows
-abbrev pub no_rows : Sizes
-no_rows = record { meters = 0; branches = 0; vertices = 0 }
-
--- what the pairs of a placement are kept in: those that were found last, and the sizes that it was made for
-pub record Paired : Type 0 where
-  pub pairs : Assignment
-  pub sizes : Sizes
-
--- as it is made
-abbrev pub new_paired : Sizes → Paired
-new_paired s = record { pairs = no_pairs s; sizes = s }
-
--- what a placement is kept in: the one that was found last, its pairs, the prices of the candidates, and the sizes that it was
--- made for, where candidates count as meters
-pub record Planning : Type 0 where
-  pub placed : Placed
-  pub pairs : Assignment
-  pub prices : List ℕ
-  pub sizes : Sizes
-
--- as it is made with room for these sizes
-abbrev pub planning_of : Sizes → List ℕ → Planning
-planning_of sizes prices = record { placed = nothing_placed; pairs = no_pairs sizes; prices = prices; sizes = sizes }
-
--- as it is made for a case: there is room for a placement where candidates were given
-abbrev pub new_planning : Bool → Tables → Planning
-new_planning offered t = planning_of (if offered then offered_room t else no_rows) (prices_of t.candidates)

@@ -1,7 +1,7 @@
 // Room for the answers to a case, and those that are at hand.
 ghost use Rattle.std.specs.Prelude.{◌≡◌, false, None, IfOk};
 ghost use Rattle.obs_case.specs.Tables.{IsValid};
-ghost use Rattle.obs_edit.specs.Sessions.{HasRoomToAnswer};
+ghost use Rattle.obs_edit.specs.inner.Sessions.{HasRoomToAnswer};
 
 use crate::hand::AtHand;
 use obs_case::Case;

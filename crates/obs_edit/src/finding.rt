@@ -1,8 +1,8 @@
 //! The answers of a session: each is found by a call that lends nothing, and seen by another.
 ghost use Rattle.std.specs.Prelude.{◌≡◌, ◌<◌, true, Some};
-ghost use Rattle.obs_assign.specs.Assignment.{StandsOver, pairs};
-ghost use Rattle.obs_exchange.specs.Laws.{IsThawed};
-ghost use Rattle.obs_placement.specs.Placed.{placed_of};
+ghost use Rattle.obs_assign.specs.inner.Assignment.{StandsOver, pairs};
+ghost use Rattle.obs_exchange.specs.inner.Laws.{IsThawed};
+ghost use Rattle.obs_placement.specs.inner.Placed.{placed_of};
 ghost use Rattle.obs_network.specs.Network.{case_component_count, case_meters, case_need, case_offered, network_of};
 ghost use Rattle.obs_repair.specs.Bounds.{bound_meters, bound_outside, bound_rank, case_critical_meters};
 ghost use Rattle.obs_edit.specs.Answers.{case_first_pairs, case_islands};

@@ -1,11 +1,12 @@
 // The pairs of a placement.
 ghost use Rattle.std.specs.Prelude.{◌≡◌, ◌+◌, ◌<◌, ◌≤◌, All, IfOk, length};
-ghost use Rattle.obs_meter.specs.Sizes.{HasRoomFor};
-ghost use Rattle.obs_meter.specs.Touches.{AreInRange};
-ghost use Rattle.obs_assign.specs.Assignment.{Fits, HasRoomOf, StandsOver, pairs as pairs_at};
-ghost use Rattle.obs_exchange.specs.Laws.{IsThawed};
+ghost use Rattle.obs_meter.specs.inner.Sizes.{HasRoomFor};
+ghost use Rattle.obs_meter.specs.inner.Touches.{AreInRange};
+ghost use Rattle.obs_assign.specs.inner.Assignment.{Fits, HasRoomOf, StandsOver, pairs as pairs_at};
+ghost use Rattle.obs_exchange.specs.inner.Laws.{IsThawed};
 ghost use Rattle.obs_first.specs.First.{first_pairs};
-ghost use Rattle.obs_edit.specs.Planned.{new_paired, pairs_in, planned_items, touches_of};
+ghost use Rattle.obs_edit.specs.Planned.{pairs_in, planned_items, touches_of};
+ghost use Rattle.obs_edit.specs.inner.Planned.{new_paired};
 
 use obs_assign::{Assignment, Steps};
 use obs_exchange::{Work, lengthen};
@@ -29,7 +30,7 @@ pub(crate) struct Pairing {
 
 impl Model for Pairing {
     ghost use Rattle.std.specs.Prelude.{◌≡◌, length};
-    ghost use Rattle.obs_edit.specs.Planned.{Paired};
+    ghost use Rattle.obs_edit.specs.inner.Planned.{Paired};
 
     ghost Value = { Paired };
 

@@ -1,12 +1,14 @@
 // The placement that was found last.
 ghost use Rattle.std.specs.Prelude.{◌≡◌, ◌+◌, IfOk, length};
 ghost use Rattle.obs_case.specs.Tables.{prices_of};
-ghost use Rattle.obs_meter.specs.Sizes.{HasRoomFor};
-ghost use Rattle.obs_meter.specs.Touches.{AreInRange};
-ghost use Rattle.obs_assign.specs.Assignment.{StandsOver, pairs as pairs_at};
-ghost use Rattle.obs_placement.specs.Placed.{placed_of, placement_of};
+ghost use Rattle.obs_meter.specs.inner.Sizes.{HasRoomFor};
+ghost use Rattle.obs_meter.specs.inner.Touches.{AreInRange};
+ghost use Rattle.obs_assign.specs.inner.Assignment.{StandsOver, pairs as pairs_at};
+ghost use Rattle.obs_placement.specs.Placed.{placement_of};
+ghost use Rattle.obs_placement.specs.inner.Placed.{placed_of};
 ghost use Rattle.obs_network.specs.Network.{case_offered, network_of};
-ghost use Rattle.obs_edit.specs.Planned.{case_placed_pairs, case_placement, new_planning, offered_room, placed_pairs, planning_of};
+ghost use Rattle.obs_edit.specs.Planned.{case_placed_pairs, case_placement, placed_pairs};
+ghost use Rattle.obs_edit.specs.inner.Planned.{new_planning, offered_room, planning_of};
 
 use crate::pairing::Pairing;
 use obs_assign::{Assignment, Steps};
@@ -32,8 +34,8 @@ pub(crate) struct Placing {
 
 impl Model for Placing {
     ghost use Rattle.std.specs.Prelude.{◌≡◌, ◌≤◌, All, length};
-    ghost use Rattle.obs_placement.specs.Limits.{most_candidates, most_price};
-    ghost use Rattle.obs_edit.specs.Planned.{Planning};
+    ghost use Rattle.obs_placement.specs.inner.Limits.{most_candidates, most_price};
+    ghost use Rattle.obs_edit.specs.inner.Planned.{Planning};
 
     ghost Value = { Planning };
 

@@ -3,9 +3,9 @@
 //! When that is given back, the session is as after the call that finds it.
 ghost use Rattle.std.specs.Borrow.{sem};
 ghost use Rattle.std.specs.Prelude.{◌≡◌, ◌<◌, true, Some};
-ghost use Rattle.obs_assign.specs.Assignment.{StandsOver, pairs};
-ghost use Rattle.obs_exchange.specs.Laws.{IsThawed};
-ghost use Rattle.obs_placement.specs.Placed.{placed_of};
+ghost use Rattle.obs_assign.specs.inner.Assignment.{StandsOver, pairs};
+ghost use Rattle.obs_exchange.specs.inner.Laws.{IsThawed};
+ghost use Rattle.obs_placement.specs.inner.Placed.{placed_of};
 ghost use Rattle.obs_network.specs.Network.{case_component_count, case_meters, case_need, case_offered, network_of};
 ghost use Rattle.obs_network.specs.Observable.{IsObservable, is_energised_component};
 ghost use Rattle.obs_repair.specs.Bounds.{bound_meters, bound_outside, bound_rank, case_critical_meters};
@@ -37,7 +37,7 @@ pub struct Placed<'a> {
 }
 
 impl Session {
-    ghost use Rattle.obs_edit.specs.Lending.{GivenBack};
+    ghost use Rattle.obs_edit.specs.inner.Lending.{GivenBack};
 
     /// The first assignment of the present case's meters, with nothing frozen.
     pub fn first_pairs<L: Ledger>(&mut self, steps: &mut Steps<L>) -> Seen<'_, &Assignment>

@@ -1,14 +1,14 @@
 //! A session.
 ghost use Rattle.std.specs.Prelude.{◌≡◌, ◌+◌, ◌<◌, ◌↔◌, true, Err, IfErr, IfOk, OnErr, IsTrue, length};
 ghost use Rattle.obs_case.specs.Tables.{IsValid};
-ghost use Rattle.obs_assign.specs.Assignment.{pairs};
+ghost use Rattle.obs_assign.specs.inner.Assignment.{pairs};
 ghost use Rattle.obs_network.specs.Network.{case_component_count, case_needed, network_of};
 ghost use Rattle.obs_network.specs.Observable.{IsObservable, IsRankOf, case_rank, is_energised_component};
-ghost use Rattle.obs_repair.specs.Edits.{HasRow};
-ghost use Rattle.obs_edit.specs.Edits.{IsEdited};
+ghost use Rattle.obs_repair.specs.inner.Edits.{HasRow};
+ghost use Rattle.obs_edit.specs.inner.Edits.{IsEdited};
 ghost use Rattle.obs_repair.specs.Lines.{meant_of};
-ghost use Rattle.obs_edit.specs.Lines.{IsDone, searches_of};
-ghost use Rattle.obs_repair.specs.Kept.{AreLongest};
+ghost use Rattle.obs_edit.specs.inner.Lines.{IsDone, searches_of};
+ghost use Rattle.obs_repair.specs.inner.Kept.{AreLongest};
 
 use crate::answers::{Answers, make_answers};
 use crate::edit::{Applied, Done};
@@ -51,9 +51,10 @@ impl Model for Session {
     ghost use Rattle.obs_case.specs.Tables.{IsValid};
     ghost use Rattle.obs_network.specs.Network.{network_of};
     ghost use Rattle.obs_network.specs.Observable.{case_rank};
-    ghost use Rattle.obs_repair.specs.Parts.{BoundsWhereKnown, HasRoomForParts};
-    ghost use Rattle.obs_repair.specs.Kept.{AreLongest, HasRoom};
-    ghost use Rattle.obs_edit.specs.Sessions.{AreAnswers, HasRoomToAnswer, IsPlacing, Session};
+    ghost use Rattle.obs_repair.specs.inner.Parts.{BoundsWhereKnown, HasRoomForParts};
+    ghost use Rattle.obs_repair.specs.inner.Kept.{AreLongest, HasRoom};
+    ghost use Rattle.obs_edit.specs.Sessions.{Session};
+    ghost use Rattle.obs_edit.specs.inner.Sessions.{AreAnswers, HasRoomToAnswer, IsPlacing};
 
     ghost Value = { Session };
 

@@ -7,8 +7,9 @@ use Rattle.obs_script.specs.Gathered.{content_of, is_comment}
 use Rattle.obs_repair.specs.declared.edit.Meant.{Meant}
 use Rattle.obs_repair.specs.declared.edit.Refusal.{Refusal}
 use Rattle.obs_repair.specs.Lines.{meant_of}
-use Rattle.obs_engine.specs.Laws.{EditsAloneChange, EndedOrLast, IsAnswerTo, OrderIsForgotten, ReportsAsTheCommand}
-use Rattle.obs_engine.specs.Lines.{answer_to, case_after, ended_after, line_case, lines_case, lines_text, open_after}
+use Rattle.obs_engine.specs.inner.Laws.{EditsAloneChange, EndedOrLast, IsAnswerTo, OrderIsForgotten, ReportsAsTheCommand}
+use Rattle.obs_engine.specs.Lines.{answer_to, case_after, ended_after, line_case, lines_case, lines_text}
+use Rattle.obs_engine.specs.inner.Lines.{open_after}
 use Rattle.obs_engine.specs.Replies.{Reply}
 use Rattle.obs_engine.proofs.Folding.{lines_are, some_line, text_parts}
 use Rattle.obs_engine.proofs.Lined.{passed_case, passed_text, said_case, said_text}

@@ -11,7 +11,8 @@ use Rattle.obs_case.specs.Tables.{IsValid, Tables}
 use Rattle.obs_io.specs.declared.outside.Failed.{Failed}
 use Rattle.obs_matroid.specs.Assignments.{Pair}
 use Rattle.obs_meter.specs.Touches.{every_item}
-use Rattle.obs_assign.specs.Assignment.{Assignment, pairs}
+use Rattle.obs_assign.specs.Assignment.{Assignment}
+use Rattle.obs_assign.specs.inner.Assignment.{pairs}
 use Rattle.obs_first.specs.First.{first_pairs}
 use Rattle.obs_first.proofs.Lawful.{first_pairs-is}
 use Rattle.obs_islands.specs.Firsts.{island_first}
@@ -19,19 +20,19 @@ use Rattle.obs_islands.specs.Islands.{every_vertex}
 use Rattle.obs_islands.proofs.Firsts.{first_in, partition}
 use Rattle.obs_network.specs.Network.{Network, case_branches, case_component_count, case_meters, case_need, case_vertex_count, network_of}
 use Rattle.obs_network.proofs.OfCase.{case_branches-are}
-use Rattle.obs_network.specs.Located.{live_meters_of}
+use Rattle.obs_network.specs.inner.Located.{live_meters_of}
 use Rattle.obs_network.specs.Observable.{IsObservable, case_live_meters, case_rank, is_energised_component}
 use Rattle.obs_network.proofs.Listed.{no_pairs_in}
 use Rattle.obs_report.specs.Counts.{counts_text}
 use Rattle.obs_report.specs.Islands.{islands_text}
 use Rattle.obs_report.specs.Meters.{bound_text, component_name, critical_text}
-use Rattle.obs_report.specs.Printed.{AppendsAt}
+use Rattle.obs_report.specs.inner.Printed.{AppendsAt}
 use Rattle.obs_report.specs.Items.{pair_line}
 use Rattle.obs_report.specs.Trees.{tree_line, tree_text}
 use Rattle.obs_report.proofs.Printing.{and_then_none}
 use Rattle.obs_repair.specs.Bounds.{bound_meters, bound_outside, bound_rank, case_critical_meters, component_rank}
 use Rattle.obs_edit.specs.Answers.{case_first_pairs, case_islands}
-use Rattle.obs_repair.specs.Kept.{AreLongest}
+use Rattle.obs_repair.specs.inner.Kept.{AreLongest}
 use Rattle.obs_repair.proofs.Enough.{live_pairs}
 use Rattle.obs_repair.proofs.Tight.{observable-from, observable-to}
 use Rattle.obs_engine.specs.Asks.{block_text, blocks_text, bound_claim, claims_text, component_claim, text_if, tree_claim}

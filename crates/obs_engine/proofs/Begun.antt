@@ -6,9 +6,10 @@ use Rattle.obs_files.specs.declared.status.Status.TheVariants.{Done, Short, NoMe
 use Rattle.obs_engine.specs.declared.tasks.Task.{Task}
 use Rattle.obs_engine.specs.declared.tasks.Task.TheVariants.{Answer, Lines, Trial}
 use Rattle.obs_engine.specs.Asks.{ask_reply}
-use Rattle.obs_engine.specs.Replies.{Reply, RepliedAt}
-use Rattle.obs_engine.specs.Sessions.{SessionAt}
-use Rattle.obs_engine.specs.Tasks.{IsTaskDone}
+use Rattle.obs_engine.specs.Replies.{Reply}
+use Rattle.obs_engine.specs.inner.Replies.{RepliedAt}
+use Rattle.obs_engine.specs.inner.Sessions.{SessionAt}
+use Rattle.obs_engine.specs.inner.Tasks.{IsTaskDone}
 use Rattle.obs_engine.specs.Trials.{IsTrialReply, dips_of, trial_reply}
 use Rattle.obs_engine.proofs.Endings.{replied_memory}
 use Rattle.obs_engine.proofs.Turned.{dips_few}

@@ -12,7 +12,7 @@ use Rattle.obs_network.specs.Network.{case_component_count, case_need}
 use Rattle.obs_network.specs.Observable.{is_energised_component}
 use Rattle.obs_cert.specs.declared.fault.CertFault.{CertFault}
 use Rattle.obs_cert.specs.declared.flaw.Flaw.{Flaw}
-use Rattle.obs_cert.specs.Certificate.{IsCertificate, claim_lines, joined}
+use Rattle.obs_cert.specs.inner.Certificate.{IsCertificate, claim_lines, joined}
 use Rattle.obs_cert.specs.Claims.{Claim, tree, bound}
 use Rattle.obs_cert.specs.Flaws.{Holds}
 use Rattle.obs_cert.specs.Read.{claims_of}
@@ -25,7 +25,7 @@ use Rattle.obs_repair.specs.Bounds.{component_rank}
 use Rattle.obs_edit.specs.Planned.{case_placed_pairs, case_placement}
 use Rattle.obs_repair.proofs.Tight.{observable-from, observable-to}
 use Rattle.obs_claimed.specs.Claimed.{component_bound, component_tree, placement_claim}
-use Rattle.obs_claimed.specs.Laws.{AreLines}
+use Rattle.obs_claimed.specs.inner.Laws.{AreLines}
 use Rattle.obs_claimed.proofs.Bounds.{bounds_hold}
 use Rattle.obs_claimed.proofs.Lines.{lines_then, no_lines}
 use Rattle.obs_claimed.proofs.PlanClaims.{placements_hold}

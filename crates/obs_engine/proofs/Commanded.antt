@@ -14,9 +14,12 @@ use Rattle.obs_files.specs.Files.{case_in_files, certificate_in}
 use Rattle.obs_files.specs.Limits.{Limits}
 use Rattle.obs_files.specs.Outside.{AreFiles}
 use Rattle.obs_engine.specs.Forms.{CanAnswer, CanStop, TakesInput}
-use Rattle.obs_engine.specs.Replies.{EndsBehind, IsReplyTo, RepliedAt, Reply}
-use Rattle.obs_engine.specs.Runs.{AnsweredAt, RanAt}
-use Rattle.obs_engine.specs.Sessions.{IsTakenFront, SessionAt, answered_within, session_reply}
+use Rattle.obs_engine.specs.Replies.{IsReplyTo, Reply}
+use Rattle.obs_engine.specs.inner.Replies.{EndsBehind, RepliedAt}
+use Rattle.obs_engine.specs.Runs.{RanAt}
+use Rattle.obs_engine.specs.inner.Runs.{AnsweredAt}
+use Rattle.obs_engine.specs.Sessions.{IsTakenFront, answered_within, session_reply}
+use Rattle.obs_engine.specs.inner.Sessions.{SessionAt}
 use Rattle.obs_engine.specs.Stated.{Told}
 use Rattle.obs_engine.proofs.Endings.{behind_of, complete_stated, ends_stated, replied_statuses, unwritten}
 use Rattle.obs_engine.proofs.Replied.{case-can, case_no_failure, nothing_before, stated_no_failure}

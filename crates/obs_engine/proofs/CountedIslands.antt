@@ -12,7 +12,7 @@ use Rattle.obs_edit.specs.Answers.{case_islands}
 use Rattle.obs_edit.specs.Laws.{IsIslandOf}
 use Rattle.obs_edit.proofs.NamedIslands.{islands_are_named, islands_begin_with_buses, islands_tell_apart}
 use Rattle.obs_edit.proofs.OneIsland.{islands_lie_in_components}
-use Rattle.obs_engine.specs.Laws.{IslandsAreCounted}
+use Rattle.obs_engine.specs.inner.Laws.{IslandsAreCounted}
 use Rattle.obs_engine.specs.Trials.{is_first_of_island}
 
 module _ (t : Tables) (v : IsValid t) (S : ℕ → Bool) (island : IsIslandOf t S) (b : ℕ) (low : b < case_bus_count t) (has : S b ≡ true) where

@@ -1,13 +1,14 @@
 -- How runs end.
 use Rattle.std.proofs.Common.{ℕ, ◌≡◌, ◌∙◌, ◌⊎◌, inl, inr, sym, refl, subst, List, [], Option, None, Result, Ok, Err, IsOk}
 use Rattle.obs_io.specs.Bytes.{Wrote}
-use Rattle.obs_report.specs.Printed.{AppendsAt}
+use Rattle.obs_report.specs.inner.Printed.{AppendsAt}
 use Rattle.obs_report.proofs.Printing.{and_then_none}
 use Rattle.obs_files.specs.declared.status.Status.{Status}
 use Rattle.obs_files.specs.declared.status.Status.TheVariants.{Done, Short, Usage, InputFault, ReadFault, WriteFault, NoMemory, SessionTooLong}
 use Rattle.obs_files.specs.declared.words.Form.{Form}
 use Rattle.obs_engine.specs.Ending.{Answers, AnswersPart, Ends, HasRoomForText, answered_before}
-use Rattle.obs_engine.specs.Replies.{EndsBehind, EndsWith, RepliedAt, Reply, printed_status, usage_reply}
+use Rattle.obs_engine.specs.Replies.{Reply, usage_reply}
+use Rattle.obs_engine.specs.inner.Replies.{EndsBehind, EndsWith, RepliedAt, printed_status}
 use Rattle.obs_engine.specs.Stated.{Told, IsStated}
 
 -- a reply that was written whole

@@ -9,7 +9,8 @@ use Rattle.obs_text.specs.Lines.{is_feed, lines_of}
 use Rattle.obs_text.specs.Laws.{HasNoFeed}
 use Rattle.obs_script.specs.Gathered.{content_of}
 use Rattle.obs_script.proofs.LineLemmas.{ended_line, last_line}
-use Rattle.obs_engine.specs.Lines.{ended_after, line_case, line_text, lines_case, lines_text, open_after}
+use Rattle.obs_engine.specs.Lines.{ended_after, line_case, line_text, lines_case, lines_text}
+use Rattle.obs_engine.specs.inner.Lines.{open_after}
 use Rattle.obs_engine.specs.Replies.{Reply}
 use Rattle.obs_engine.specs.Sessions.{cut_reply, session_reply, whole_reply}
 

@@ -11,7 +11,7 @@ use Rattle.obs_files.specs.declared.words.Form.TheVariants.{Trial}
 use Rattle.obs_files.specs.Files.{case_in_files, certificate_in, parsed}
 use Rattle.obs_files.specs.Limits.{Limits}
 use Rattle.obs_files.specs.Outside.{AreFiles}
-use Rattle.obs_engine.specs.Trials.{AreInService}
+use Rattle.obs_engine.specs.inner.Trials.{AreInService}
 
 drawn_in_service : (seed : ℕ) (ends : List (ℕ × (ℕ × ℕ))) → All (λ (row : Meter). row.inservice ≡ true) (map (meter_at seed) ends)
 drawn_in_service seed ends = All-map (λ (row : Meter). row.inservice ≡ true) (meter_at seed) ends (λ i d low. drawn (get_or ends i d))

@@ -8,15 +8,18 @@ use Rattle.obs_case.specs.Tables.{Tables}
 use Rattle.obs_io.specs.Bytes.{IsPiece, TakesFront, Wrote, WrotePart}
 use Rattle.obs_io.specs.Causes.{HasCause, Rose}
 use Rattle.obs_io.specs.declared.outside.Failed.{Failed}
-use Rattle.obs_report.specs.Printed.{AppendsAt}
+use Rattle.obs_report.specs.inner.Printed.{AppendsAt}
 use Rattle.obs_report.proofs.Printing.{failed_call, then_call}
-use Rattle.obs_script.specs.Gathered.{Holds, content_of}
+use Rattle.obs_script.specs.Gathered.{content_of}
+use Rattle.obs_script.specs.inner.Gathered.{Holds}
 use Rattle.obs_files.specs.declared.status.Status.{Status}
 use Rattle.obs_files.specs.declared.status.Status.TheVariants.{Done, Short, InputFault, ReadFault, WriteFault, SessionTooLong}
 use Rattle.obs_engine.specs.Asks.{report_status}
-use Rattle.obs_engine.specs.Lines.{ended_after, line_case, line_text, lines_case, lines_text, open_after}
+use Rattle.obs_engine.specs.Lines.{ended_after, line_case, line_text, lines_case, lines_text}
+use Rattle.obs_engine.specs.inner.Lines.{open_after}
 use Rattle.obs_engine.specs.Replies.{Reply}
-use Rattle.obs_engine.specs.Sessions.{IsTakenFront, SessionAt, answered_within, cut_reply, session_reply, taken_of, whole_reply}
+use Rattle.obs_engine.specs.Sessions.{IsTakenFront, answered_within, cut_reply, session_reply, taken_of, whole_reply}
+use Rattle.obs_engine.specs.inner.Sessions.{SessionAt}
 use Rattle.obs_engine.proofs.Folding.{IsFrontOf, case_goes_on, front_of_reply, is_cut, is_whole, open_parts, text_goes_on, whole_case, whole_text}
 use Rattle.obs_engine.proofs.Replied.{IsVerdict, report_status-is, verdict_no_failure}
 

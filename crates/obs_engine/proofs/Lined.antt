@@ -6,15 +6,17 @@ use Rattle.std.proofs.lemmas.Bool.{cases_lt, le-leb}
 use Rattle.std.proofs.lemmas.List.{take-append-drop}
 use Rattle.obs_case.specs.Tables.{Tables}
 use Rattle.obs_io.specs.declared.outside.Failed.{Failed}
-use Rattle.obs_report.specs.Printed.{AppendsAt}
+use Rattle.obs_report.specs.inner.Printed.{AppendsAt}
 use Rattle.obs_report.proofs.Printing.{failed_call, then_call}
 use Rattle.obs_script.specs.Commands.{most_bytes}
-use Rattle.obs_script.specs.Gathered.{Holds, content_of, fed, is_comment, line_of}
+use Rattle.obs_script.specs.Gathered.{content_of, is_comment}
+use Rattle.obs_script.specs.inner.Gathered.{Holds, fed, line_of}
 use Rattle.obs_script.proofs.CommandLemmas.{too_long}
 use Rattle.obs_text.specs.Lines.{is_feed}
 use Rattle.obs_repair.specs.declared.edit.Refusal.TheVariants.{LineTooLong}
 use Rattle.obs_repair.specs.Lines.{meant_by, meant_of}
-use Rattle.obs_engine.specs.Lines.{answer_to, case_after, ended_after, line_case, line_text, lines_case, lines_text, open_after}
+use Rattle.obs_engine.specs.Lines.{answer_to, case_after, ended_after, line_case, line_text, lines_case, lines_text}
+use Rattle.obs_engine.specs.inner.Lines.{open_after}
 use Rattle.obs_engine.proofs.Asked.{appends_as}
 use Rattle.obs_engine.proofs.Folding.{case_goes_on, open_parts, text_goes_on}
 

@@ -21,7 +21,8 @@ use Rattle.obs_network.specs.Network.{case_branches, case_item_count, case_neede
 use Rattle.obs_network.proofs.Marked.{filtered_below}
 use Rattle.obs_network.proofs.OfCase.{length-case_offered}
 use Rattle.obs_rankcut.specs.Costs.{price_of}
-use Rattle.obs_report.specs.Placements.{AreCountsOf, IsWithin, placement_text}
+use Rattle.obs_report.specs.Placements.{placement_text}
+use Rattle.obs_report.specs.inner.Placements.{AreCountsOf, IsWithin}
 use Rattle.obs_edit.specs.Planned.{case_placed_pairs, case_placement}
 use Rattle.obs_engine.specs.declared.blocks.Block.TheVariants.{Placement}
 use Rattle.obs_engine.specs.Asks.{block_text}

@@ -7,11 +7,13 @@ use Rattle.obs_files.specs.declared.words.Form.{Form}
 use Rattle.obs_files.specs.Limits.{Limits}
 use Rattle.obs_files.specs.Outside.{AreFiles, ReadFailed}
 use Rattle.obs_engine.specs.Forms.{AnyReadFailed}
-use Rattle.obs_engine.specs.Replies.{RepliedAt, Reply, usage_reply}
+use Rattle.obs_engine.specs.Replies.{Reply, usage_reply}
+use Rattle.obs_engine.specs.inner.Replies.{RepliedAt}
 use Rattle.obs_engine.specs.Runs.{RanAt}
 use Rattle.obs_engine.specs.Sessions.{IsTakenFront}
 use Rattle.obs_engine.specs.Stated.{Tells, Told}
-use Rattle.obs_engine.specs.Stays.{Begins, IsNotBegun}
+use Rattle.obs_engine.specs.Stays.{IsNotBegun}
+use Rattle.obs_engine.specs.inner.Stays.{Begins}
 use Rattle.obs_engine.proofs.Endings.{usage_complete, usage_ends}
 
 pub ran_at : {content : ℕ → Option (List ℕ)} {faults_before faults_now : ℕ → ℕ} {files_steady : ℕ → Type 0} {left left_now : Option (List ℕ)} {i j : ℕ} {is_steady : Type 0}

@@ -15,7 +15,7 @@ use Rattle.obs_placement.specs.Placed.{Placed}
 use Rattle.obs_placement.specs.Placed.Placed.{cheapest, shortfall}
 use Rattle.obs_script.specs.declared.command.Ask.{Ask}
 use Rattle.obs_script.specs.declared.command.Ask.TheVariants.{Status as StatusAsk, Tree, Bound, Islands, Critical, Report as ReportAsk, Place as PlaceAsk, Cert}
-use Rattle.obs_report.specs.Printed.{AppendsAt}
+use Rattle.obs_report.specs.inner.Printed.{AppendsAt}
 use Rattle.obs_text.specs.Faults.{Fault}
 use Rattle.obs_text.specs.Lines.{lines_of}
 use Rattle.obs_network.specs.Observable.{case_rank}
@@ -35,7 +35,8 @@ use Rattle.obs_engine.specs.Forms.{CanEnd, TakesInput}
 use Rattle.obs_engine.specs.Lines.{lines_case}
 use Rattle.obs_engine.specs.Sessions.{session_reply}
 use Rattle.obs_engine.specs.Stated.{Told}
-use Rattle.obs_engine.specs.Replies.{IsRefused, IsReplyTo, RepliedAt, Reply, fault_reply, printed_status}
+use Rattle.obs_engine.specs.Replies.{IsReplyTo, Reply, fault_reply}
+use Rattle.obs_engine.specs.inner.Replies.{IsRefused, RepliedAt, printed_status}
 use Rattle.obs_engine.specs.OutageReply.{are_met, outages_status}
 use Rattle.obs_engine.specs.StationReply.{are_borne, stations_status}
 use Rattle.obs_engine.specs.Studies.{study_reply}

@@ -16,7 +16,8 @@ use Rattle.obs_script.specs.declared.fault.LineFault.{LineFault}
 use Rattle.obs_script.specs.Commands.{Said, asks, closes, command_of, loses, opens, regains, restores, trips}
 use Rattle.obs_script.specs.Gathered.{is_comment}
 use Rattle.obs_script.proofs.LineLemmas.{ended_line}
-use Rattle.obs_text.specs.Faults.{Fault, fault_of}
+use Rattle.obs_text.specs.Faults.{Fault}
+use Rattle.obs_text.specs.inner.Faults.{fault_of}
 use Rattle.obs_text.specs.Lines.{lines_of}
 use Rattle.obs_repair.specs.declared.edit.Edit.{Edit}
 use Rattle.obs_repair.specs.declared.edit.Edit.TheVariants as edit
@@ -37,14 +38,16 @@ use Rattle.obs_files.specs.declared.words.Form.TheVariants.{Topology, Case, Tria
 use Rattle.obs_engine.specs.Asks.{report_status}
 use Rattle.obs_engine.specs.Commands.{IsCaseReply}
 use Rattle.obs_files.specs.Files.{case_in_files, certificate_in}
-use Rattle.obs_engine.specs.Forms.{CanRefuse}
+use Rattle.obs_engine.specs.inner.Forms.{CanRefuse}
 use Rattle.obs_engine.specs.Lines.{answer_to, case_after, line_case, line_text, lines_case, lines_text}
-use Rattle.obs_engine.specs.Replies.{EndsWith, IsRefused, IsReplyTo, Reply, fault_reply, usage_reply}
+use Rattle.obs_engine.specs.Replies.{IsReplyTo, Reply, fault_reply, usage_reply}
+use Rattle.obs_engine.specs.inner.Replies.{EndsWith, IsRefused}
 use Rattle.obs_engine.specs.Sessions.{session_reply}
-use Rattle.obs_engine.specs.Stays.{AnswersAsRun, Begins, CanBeSaidAgain, IsBegun, IsContent, IsNotBegun, RefusesAsRun, as_one, input_of, line_replies, line_reply}
+use Rattle.obs_engine.specs.Stays.{AnswersAsRun, IsBegun, IsContent, IsNotBegun, RefusesAsRun, as_one, input_of, line_replies, line_reply}
+use Rattle.obs_engine.specs.inner.Stays.{Begins, CanBeSaidAgain}
 use Rattle.obs_files.specs.Limits.{Limits}
 use Rattle.obs_files.specs.Words.{offers}
-use Rattle.obs_files.specs.Taken.{IsCaseError}
+use Rattle.obs_files.specs.inner.Taken.{IsCaseError}
 use Rattle.obs_engine.proofs.Folding.{is_whole}
 use Rattle.obs_engine.proofs.Lined.{passed_case, said_case, said_text}
 use Rattle.obs_engine.proofs.Replied.{report_status-is}

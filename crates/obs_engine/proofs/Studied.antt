@@ -11,25 +11,27 @@ use Rattle.obs_matroid.specs.Partners.{first_passing}
 use Rattle.obs_matroid.proofs.Contained.{All-from_In}
 use Rattle.obs_meter.specs.Touches.{every_item, is_live}
 use Rattle.obs_meter.proofs.Assigned.{live_items-distinct, rho_at-is, rho_at-unique}
-use Rattle.obs_assign.specs.Assignment.{Assignment, pairs}
+use Rattle.obs_assign.specs.Assignment.{Assignment}
+use Rattle.obs_assign.specs.inner.Assignment.{pairs}
 use Rattle.obs_switch.proofs.FirstNodes.{bus_at, first_member, first_node-le}
 use Rattle.obs_network.specs.Network.{Network, case_branches, case_meters, case_needed, case_vertex_count, network_of}
 use Rattle.obs_network.specs.Observable.{case_live_meters, case_rank, rank_of_meters}
 use Rattle.obs_network.proofs.Marked.{filtered_below}
 use Rattle.obs_network.proofs.OfCase.{case_branches-are, length-case_meters}
-use Rattle.obs_kept.specs.Kept.{AreLongest}
+use Rattle.obs_kept.specs.inner.Kept.{AreLongest}
 use Rattle.obs_outage.specs.declared.outages.Outage.{Outage}
 use Rattle.obs_outage.specs.Outages.{is_outage_row, outage_of, outage_rows, outages_of}
 use Rattle.obs_graph.specs.Graph.{Graph}
 use Rattle.obs_meter.specs.declared.Touch.{Touch}
 use Rattle.obs_meter.specs.Held.{Meters}
-use Rattle.obs_meter.specs.Sizes.{HasRoomFor, Sizes}
-use Rattle.obs_exchange.specs.Longest.{IsLongest}
-use Rattle.obs_pairs.specs.PairWork.{PairWork, has_another}
+use Rattle.obs_meter.specs.inner.Sizes.{HasRoomFor, Sizes}
+use Rattle.obs_exchange.specs.inner.Longest.{IsLongest}
+use Rattle.obs_pairs.specs.PairWork.{has_another}
+use Rattle.obs_pairs.specs.inner.PairWork.{PairWork}
 use Rattle.obs_pairs.specs.Partners.{class_at, classes_of}
 use Rattle.obs_station.specs.declared.losses.Loss.{Loss}
 use Rattle.obs_station.specs.Stations.{all_links, case_station_count, has_live, loss_of, loss_stations, losses_of, station_node}
-use Rattle.obs_report.specs.Printed.{PrintsAt}
+use Rattle.obs_report.specs.inner.Printed.{PrintsAt}
 use Rattle.obs_report.proofs.Printing.{nothing_printed}
 use Rattle.obs_files.specs.declared.status.Status.{Status}
 use Rattle.obs_files.specs.declared.status.Status.TheVariants.{Short}

@@ -9,18 +9,20 @@ use Rattle.obs_case.specs.declared.rows.Meter.{Meter}
 use Rattle.obs_case.specs.Flags.{changed_at, with_meter_inservice}
 use Rattle.obs_case.specs.Tables.{IsValid, Tables}
 use Rattle.obs_case.proofs.RowLemmas.{length-changed}
-use Rattle.obs_assign.specs.Assignment.{Assignment, pairs}
-use Rattle.obs_assign.specs.Still.{is_still}
+use Rattle.obs_assign.specs.Assignment.{Assignment}
+use Rattle.obs_assign.specs.inner.Assignment.{pairs}
+use Rattle.obs_assign.specs.inner.Still.{is_still}
 use Rattle.obs_network.specs.Network.{Network, case_branches, case_meters, network_of}
 use Rattle.obs_network.specs.Switched.{case_bus_count}
 use Rattle.obs_report.specs.Counts.{counts_text}
 use Rattle.obs_report.specs.Totals.{totals_text, trial_line}
 use Rattle.obs_network.specs.Observable.{IsRankOf, case_rank}
-use Rattle.obs_repair.specs.Edits.{IsRepaired}
-use Rattle.obs_repair.specs.Kept.{AreLongest}
+use Rattle.obs_repair.specs.inner.Edits.{IsRepaired}
+use Rattle.obs_repair.specs.inner.Kept.{AreLongest}
 use Rattle.obs_edit.specs.Sessions.{Session}
-use Rattle.obs_engine.specs.Trials.{AreInService, dip_meters, dips_of, edits_of, is_dip, is_first_of_island, island_count, trial_text}
-use Rattle.obs_engine.specs.Turns.{AreSearches, AreTurns, IsTurn}
+use Rattle.obs_engine.specs.Trials.{dip_meters, dips_of, edits_of, is_dip, is_first_of_island, island_count, trial_text}
+use Rattle.obs_engine.specs.inner.Trials.{AreInService}
+use Rattle.obs_engine.specs.inner.Turns.{AreSearches, AreTurns, IsTurn}
 use Rattle.obs_network.proofs.OfCase.{few_meters}
 use Rattle.obs_claimed.proofs.Small.{filter_few}
 

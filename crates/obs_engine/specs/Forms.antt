@@ -1,5 +1,5 @@
 -- What a form of words takes, and which answers it can have.
-use Rattle.std.specs.Prelude.{ℕ, ◌≡◌, ◌⊎◌, Bool, List, Option, None, Some}
+use Rattle.std.specs.Prelude.{ℕ, ◌≡◌, ◌⊎◌, List, Option, None, Some}
 use Rattle.obs_io.specs.Causes.{Rose}
 use Rattle.obs_files.specs.declared.status.Status.{Status}
 use Rattle.obs_files.specs.declared.status.Status.TheVariants.{Done, Short, Usage, InputFault, ReadFault, WriteFault, NoMemory, SessionTooLong}
@@ -25,11 +25,6 @@ CanEnd form status = (status ≡ Done) ⊎ (status ≡ Short)
 -- the statuses of a form whose files are refused, or where something failed
 abbrev pub CanStop : Status → Type 0
 CanStop status = (status ≡ InputFault) ⊎ (status ≡ ReadFault) ⊎ (status ≡ WriteFault) ⊎ (status ≡ NoMemory)
-
--- the statuses with which no session begins, whatever the outside tells. Words of no session take no memory and no file
-abbrev pub CanRefuse : Option Bool → Status → Type 0
-CanRefuse None status = (status ≡ Usage) ⊎ (status ≡ WriteFault)
-CanRefuse (Some offered) status = CanStop status
 
 -- the statuses that a form can have, whatever the outside tells
 abbrev pub CanAnswer : Option Form → Status → Type 0

@@ -15,8 +15,7 @@ pub mod StationReply
 pub mod Stays
 pub mod Studies
 pub mod Summaries
-pub mod Tasks
 pub mod Topology
 pub mod Trials
-pub mod Turns
 pub mod Verify
+pub mod inner

@@ -47,8 +47,3 @@ lines_text offered t (line ∷ lines) = line_text offered t line ++ lines_text o
 abbrev pub ended_after : List ℕ → List ℕ → List (List ℕ)
 ended_after line [] = []
 ended_after line (byte ∷ bytes) = if is_feed byte then content_of line ∷ ended_after [] bytes else ended_after (line ++ (byte ∷ [])) bytes
-
--- the bytes of the line that hasn't ended then
-abbrev pub open_after : List ℕ → List ℕ → List ℕ
-open_after line [] = line
-open_after line (byte ∷ bytes) = if is_feed byte then open_after [] bytes else open_after (line ++ (byte ∷ [])) bytes

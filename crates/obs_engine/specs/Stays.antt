@@ -1,20 +1,18 @@
 -- A session that stays between calls: how it is begun, what one line does, and what lines do one after another.
-use Rattle.std.specs.Prelude.{ℕ, ◌≡◌, ◌≤◌, ◌⊎◌, All, Bool, List, [], ◌∷◌, ◌++◌, length, Option, None, Some, Result, Ok, Err}
+use Rattle.std.specs.Prelude.{ℕ, ◌≡◌, ◌≤◌, ◌⊎◌, All, Bool, List, [], ◌∷◌, ◌++◌, length, Option, None, Some, Ok, Err}
 use Rattle.obs_case.specs.Tables.{Tables}
 use Rattle.obs_report.specs.Lines.{line_feed}
 use Rattle.obs_script.specs.Gathered.{content_of}
 use Rattle.obs_text.specs.Faults.{Fault}
 use Rattle.obs_text.specs.Laws.{HasNoFeed}
-use Rattle.obs_edit.specs.Sessions.{Session as Kept}
 use Rattle.obs_files.specs.declared.status.Status.{Status}
-use Rattle.obs_files.specs.declared.status.Status.TheVariants.{ReadFault, NoMemory}
 use Rattle.obs_files.specs.declared.words.Form.{Form}
 use Rattle.obs_engine.specs.Asks.{report_status}
 use Rattle.obs_files.specs.Files.{case_in_files}
 use Rattle.obs_files.specs.Limits.{Limits}
 use Rattle.obs_files.specs.Words.{offers}
 use Rattle.obs_engine.specs.Lines.{line_case, line_text}
-use Rattle.obs_engine.specs.Replies.{EndsWith, Reply, fault_reply, usage_reply}
+use Rattle.obs_engine.specs.Replies.{Reply, fault_reply, usage_reply}
 use Rattle.obs_engine.specs.Stated.{IsStated}
 
 -- the words are a session's, with candidates or without, and this is the case that its files are with these limits
@@ -28,14 +26,6 @@ IsNotBegun limits (Some form) file reply =
     ((offers (Some form) ≡ None) × (reply ≡ usage_reply))
     ⊎ ((offered : Bool) × (fault : Fault) × (offers (Some form) ≡ Some offered) × (case_in_files limits form file ≡ Err fault) × (reply ≡ fault_reply fault))
 IsNotBegun limits None file reply = reply ≡ usage_reply
-
--- how beginning a session ends: it has begun; or it gets the reply that is stated where none begins; or a file couldn't be read or
--- there was no memory, and nothing is written
-abbrev pub Begins : Limits → Option Form → (ℕ → List ℕ) → Result Kept Status → Option (List ℕ) → Option (List ℕ) → Type 0
-Begins limits form file (Ok s) before after = IsBegun limits form file s.offered s.tables
-Begins limits form file (Err status) before after =
-    ((reply : Reply) × IsNotBegun limits form file reply × EndsWith reply status before after)
-    ⊎ (((status ≡ ReadFault) ⊎ (status ≡ NoMemory)) × (after ≡ before))
 
 -- the reply to one line of this content: its answer, and the status is that of the present case behind it
 abbrev pub line_reply : Bool → Tables → List ℕ → Reply
@@ -81,10 +71,3 @@ RefusesAsRun =
     (limits : Limits) (form : Option Form) (file : ℕ → List ℕ) (input : List ℕ) (reply : Reply)
     → (form ≡ None) ⊎ ((offered : Bool) × (offers form ≡ Some offered))
     → IsNotBegun limits form file reply → IsStated form (record { limits = limits; file = file; input = input }) reply
-
--- a line that is said again changes nothing more, and has the same reply
-abbrev pub CanBeSaidAgain : Type 0
-CanBeSaidAgain =
-    (offered : Bool) (t : Tables) (line : List ℕ)
-    → (line_case offered (line_case offered t line) line ≡ line_case offered t line)
-    × (line_reply offered (line_case offered t line) line ≡ line_reply offered t line)

@@ -22,8 +22,6 @@ use Rattle.obs_files.specs.Files.{case_in_files}
 use Rattle.obs_files.specs.Limits.{Limits}
 use Rattle.obs_files.specs.Outside.{AreFiles}
 use Rattle.obs_files.specs.Words.{form_of}
-use Rattle.obs_engine.specs.declared.tasks.Task.{Task}
-use Rattle.obs_engine.specs.declared.tasks.Task.TheVariants.{Answer}
 
 -- whether this is the kind of an injection or a zero
 abbrev pub is_injection_kind : Kind → Bool
@@ -62,11 +60,6 @@ form_summary (Case Report from) t = Some (summary_of t)
 form_summary (Case Place from) t = Some (summary_of t)
 form_summary (Case (Study study) from) t = Some (summary_of t)
 form_summary form t = None
-
--- the same of what a session is begun for
-abbrev pub task_summary : Task → Tables → Option Summary
-task_summary (Answer ask) t = Some (summary_of t)
-task_summary task t = None
 
 -- the answer is whole, and says whether the case has what it needs
 abbrev pub IsWholeAnswer : Status → Type 0

@@ -1,7 +1,6 @@
 -- What a trial says of a case: how many islands it has, and what losing and regaining each of its meters comes to.
-use Rattle.std.specs.Prelude.{ℕ, ◌≡◌, ◌≤◌, ◌*◌, ◌==◌, ◌&&◌, Bool, true, false, nat_lt, List, ◌++◌, length, filter, slice_index, All}
+use Rattle.std.specs.Prelude.{ℕ, ◌≡◌, ◌≤◌, ◌*◌, ◌==◌, ◌&&◌, Bool, false, nat_lt, List, ◌++◌, length, filter, slice_index}
 use Rattle.std.specs.List.{range_with_len}
-use Rattle.obs_case.specs.declared.rows.Meter.{Meter as Row}
 use Rattle.obs_case.specs.Tables.{Tables}
 use Rattle.obs_network.specs.Network.{network_of}
 use Rattle.obs_network.specs.Switched.{case_bus_count}
@@ -14,10 +13,6 @@ use Rattle.obs_network.specs.Observable.{case_rank}
 use Rattle.obs_repair.specs.Edits.{edited}
 use Rattle.obs_engine.specs.Asks.{report_status}
 use Rattle.obs_engine.specs.Replies.{Reply}
-
--- each meter of a case is in service
-abbrev pub AreInService : Tables → Type 0
-AreInService t = All (λ (row : Row). row.inservice ≡ true) t.meters
 
 -- whether a bus is energised and the first bus of its island
 abbrev pub is_first_of_island : Tables → ℕ → Bool

@@ -1,7 +1,7 @@
 // The answers to the asks of a session, printed. Each call finds what is not at hand, and leaves the case as it is.
 ghost use Rattle.std.specs.Prelude.{◌≡◌, true};
 ghost use Rattle.obs_matroid.specs.Lists.{In};
-ghost use Rattle.obs_report.specs.Printed.{Appends};
+ghost use Rattle.obs_report.specs.inner.Printed.{Appends};
 ghost use Rattle.obs_script.specs.declared.command.Ask.TheVariants.{Place};
 ghost use Rattle.obs_engine.specs.declared.blocks.Block.TheVariants.{Placement};
 ghost use Rattle.obs_engine.specs.Asks.{ask_text, block_text, blocks_text};

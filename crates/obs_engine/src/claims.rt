@@ -1,9 +1,9 @@
 // The claims on the components of a session's case, printed.
 // Each call finds what is not at hand, and leaves the case as it is.
 ghost use Rattle.std.specs.Prelude.{◌≡◌, ◌<◌, []};
-ghost use Rattle.obs_network.specs.Located.{live_meters_of};
+ghost use Rattle.obs_network.specs.inner.Located.{live_meters_of};
 ghost use Rattle.obs_network.specs.Network.{case_component_count, network_of};
-ghost use Rattle.obs_report.specs.Printed.{Appends};
+ghost use Rattle.obs_report.specs.inner.Printed.{Appends};
 ghost use Rattle.obs_engine.specs.Asks.{bound_claim, claims_text, component_claim, tree_claim};
 
 use obs_assign::Steps;

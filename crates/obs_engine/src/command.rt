@@ -3,8 +3,9 @@ ghost use Rattle.std.specs.Prelude.{◌≡◌, ◌≤◌, ℕ, Some, length};
 ghost use Rattle.obs_text.specs.Limits.{most_file_bytes};
 ghost use Rattle.obs_files.specs.Words.{HasRows};
 ghost use Rattle.obs_engine.specs.Forms.{TakesInput};
-ghost use Rattle.obs_engine.specs.Trials.{AreInService};
-ghost use Rattle.obs_engine.specs.Runs.{IsCaseAnswered, IsRun};
+ghost use Rattle.obs_engine.specs.inner.Trials.{AreInService};
+ghost use Rattle.obs_engine.specs.Runs.{IsRun};
+ghost use Rattle.obs_engine.specs.inner.Runs.{IsCaseAnswered};
 ghost use Rattle.obs_engine.specs.Summaries.{IsSummed, IsWholeAnswer, form_summary};
 
 use crate::refused::refuse_files;

@@ -3,7 +3,7 @@ ghost use Rattle.std.specs.Prelude.{◌≡◌, ◌<◌, ◌≤◌, length, IfOk,
 ghost use Rattle.obs_io.specs.Bytes.{TakesFront};
 ghost use Rattle.obs_io.specs.Causes.{HasCause};
 ghost use Rattle.obs_text.specs.Limits.{most_file_bytes};
-ghost use Rattle.obs_engine.specs.Sessions.{IsSession};
+ghost use Rattle.obs_engine.specs.inner.Sessions.{IsSession};
 
 use crate::ask_answers::verdict;
 use crate::line_answers::{answer_bytes, answer_line};

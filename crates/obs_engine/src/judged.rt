@@ -1,9 +1,9 @@
 // The verdict on a case by a longest assignment of its meters, and the status of an answer that was printed.
 ghost use Rattle.std.specs.Prelude.{◌≡◌};
 ghost use Rattle.obs_network.specs.Network.{network_of};
-ghost use Rattle.obs_kept.specs.Kept.{AreLongest};
+ghost use Rattle.obs_kept.specs.inner.Kept.{AreLongest};
 ghost use Rattle.obs_engine.specs.Asks.{report_status};
-ghost use Rattle.obs_engine.specs.Replies.{printed_status};
+ghost use Rattle.obs_engine.specs.inner.Replies.{printed_status};
 
 use obs_assign::Assignment;
 use obs_case::Case;

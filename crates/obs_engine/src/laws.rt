@@ -17,12 +17,14 @@ ghost use Rattle.obs_repair.specs.declared.edit.Edit.{Edit};
 ghost use Rattle.obs_repair.specs.Edits.{edited};
 ghost use Rattle.obs_report.specs.Counts.{verdict_word};
 ghost use Rattle.obs_engine.specs.Asks.{report_status};
-ghost use Rattle.obs_engine.specs.Stays.{AnswersAsRun, CanBeSaidAgain, RefusesAsRun};
+ghost use Rattle.obs_engine.specs.Stays.{AnswersAsRun, RefusesAsRun};
+ghost use Rattle.obs_engine.specs.inner.Stays.{CanBeSaidAgain};
 ghost use Rattle.obs_engine.specs.OutageReply.{outages_status};
 ghost use Rattle.obs_engine.specs.StationReply.{stations_status};
 ghost use Rattle.obs_engine.specs.Trials.{dip_meters, dips_of};
 ghost use Rattle.obs_engine.specs.Claimed.{AnswersAreVerified, AnswersFit, AnswersHold};
-ghost use Rattle.obs_engine.specs.Laws.{BearsLosses, BearsOutages, EditsAloneChange, EndedOrLast, IsAnswerTo, IslandsAreCounted, ListsNonCritical, OrderIsForgotten, PairsFailTogether, ReportsAsTheCommand};
+ghost use Rattle.obs_engine.specs.Laws.{BearsLosses, BearsOutages, ListsNonCritical, PairsFailTogether};
+ghost use Rattle.obs_engine.specs.inner.Laws.{EditsAloneChange, EndedOrLast, IsAnswerTo, IslandsAreCounted, OrderIsForgotten, ReportsAsTheCommand};
 ghost use Rattle.obs_repair.specs.Bounds.{bound_meters, bound_outside, bound_rank, case_critical_meters, component_meters, short_components};
 
 pub use obs_files::laws::{cases_are_valid, forms_of_words};

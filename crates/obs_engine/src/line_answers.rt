@@ -1,10 +1,12 @@
 // The answers to the lines of a session.
 ghost use Rattle.std.specs.Prelude.{◌≡◌, ℕ, List, [], ◌∷◌, Err, IfOk};
 ghost use Rattle.obs_case.specs.Tables.{Tables};
-ghost use Rattle.obs_report.specs.Printed.{Appends};
-ghost use Rattle.obs_script.specs.Gathered.{Holds, content_of};
+ghost use Rattle.obs_report.specs.inner.Printed.{Appends};
+ghost use Rattle.obs_script.specs.Gathered.{content_of};
+ghost use Rattle.obs_script.specs.inner.Gathered.{Holds};
 ghost use Rattle.obs_repair.specs.Lines.{meant_of};
-ghost use Rattle.obs_engine.specs.Lines.{answer_to, case_after, ended_after, line_case, line_text, lines_case, lines_text, open_after};
+ghost use Rattle.obs_engine.specs.Lines.{answer_to, case_after, ended_after, line_case, line_text, lines_case, lines_text};
+ghost use Rattle.obs_engine.specs.inner.Lines.{open_after};
 
 use crate::asks::print_ask;
 use obs_assign::Steps;

@@ -1,12 +1,12 @@
 // The outages of a case, printed.
 ghost use Rattle.std.specs.Prelude.{◌≡◌, ◌<◌, [], ◌∷◌, All, Some, codes, decimal, length};
 ghost use Rattle.obs_network.specs.Network.{network_of};
-ghost use Rattle.obs_kept.specs.Kept.{AreLongest};
+ghost use Rattle.obs_kept.specs.inner.Kept.{AreLongest};
 ghost use Rattle.obs_outage.specs.Outages.{outages_of};
 ghost use Rattle.obs_report.specs.Lines.{line_of};
-ghost use Rattle.obs_report.specs.Printed.{Appends, Prints};
+ghost use Rattle.obs_report.specs.inner.Printed.{Appends, Prints};
 ghost use Rattle.obs_engine.specs.OutageReply.{are_met, outage_line, outages_reply, outages_status, outages_text};
-ghost use Rattle.obs_engine.specs.Replies.{IsReplied};
+ghost use Rattle.obs_engine.specs.inner.Replies.{IsReplied};
 ghost use Rattle.obs_engine.specs.Summaries.{IsWholeAnswer, summary_of};
 
 use crate::judged::{kept_verdict, printed_status};

@@ -1,11 +1,11 @@
 // The meters of a case that are critical together, printed.
 ghost use Rattle.std.specs.Prelude.{◌≡◌, ◌<◌, IfOk, [], ◌∷◌, length};
-ghost use Rattle.obs_meter.specs.Sizes.{HasRoomFor};
+ghost use Rattle.obs_meter.specs.inner.Sizes.{HasRoomFor};
 ghost use Rattle.obs_network.specs.Network.{network_of};
-ghost use Rattle.obs_kept.specs.Kept.{AreLongest};
-ghost use Rattle.obs_report.specs.Printed.{Appends, Prints};
+ghost use Rattle.obs_kept.specs.inner.Kept.{AreLongest};
+ghost use Rattle.obs_report.specs.inner.Printed.{Appends, Prints};
 ghost use Rattle.obs_engine.specs.PairReply.{case_classes, class_line, class_lines, classes_text, pairs_reply};
-ghost use Rattle.obs_engine.specs.Replies.{IsReplied};
+ghost use Rattle.obs_engine.specs.inner.Replies.{IsReplied};
 ghost use Rattle.obs_engine.specs.Summaries.{IsWholeAnswer, summary_of};
 
 use crate::judged::{kept_verdict, printed_status};

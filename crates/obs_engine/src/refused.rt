@@ -2,9 +2,11 @@
 ghost use Rattle.std.specs.Prelude.{◌≡◌, ◌≢◌, ◌+◌, ◌⊎◌, ℕ, length, Result};
 ghost use Rattle.obs_case.specs.Tables.{Tables};
 ghost use Rattle.obs_io.specs.Causes.{Rose};
-ghost use Rattle.obs_text.specs.Faults.{Fault, fault_of};
-ghost use Rattle.obs_engine.specs.Replies.{EndsWith, IsRefused, IsReplied, Reply, fault_reply, usage_reply};
-ghost use Rattle.obs_files.specs.Taken.{IsCaseError};
+ghost use Rattle.obs_text.specs.Faults.{Fault};
+ghost use Rattle.obs_text.specs.inner.Faults.{fault_of};
+ghost use Rattle.obs_engine.specs.Replies.{Reply, fault_reply, usage_reply};
+ghost use Rattle.obs_engine.specs.inner.Replies.{EndsWith, IsRefused, IsReplied};
+ghost use Rattle.obs_files.specs.inner.Taken.{IsCaseError};
 
 use crate::judged::printed_status;
 use obs_files::{CaseError, Status};

@@ -1,11 +1,11 @@
 // The stations of a case and the loss of their meters, printed.
 ghost use Rattle.std.specs.Prelude.{◌≡◌, ◌<◌, [], ◌∷◌, All, Some, codes, decimal, length};
 ghost use Rattle.obs_network.specs.Network.{network_of};
-ghost use Rattle.obs_kept.specs.Kept.{AreLongest};
+ghost use Rattle.obs_kept.specs.inner.Kept.{AreLongest};
 ghost use Rattle.obs_report.specs.Lines.{line_of};
-ghost use Rattle.obs_report.specs.Printed.{Appends, Prints};
+ghost use Rattle.obs_report.specs.inner.Printed.{Appends, Prints};
 ghost use Rattle.obs_station.specs.Stations.{losses_of};
-ghost use Rattle.obs_engine.specs.Replies.{IsReplied};
+ghost use Rattle.obs_engine.specs.inner.Replies.{IsReplied};
 ghost use Rattle.obs_engine.specs.Summaries.{IsWholeAnswer, summary_of};
 ghost use Rattle.obs_engine.specs.StationReply.{are_borne, loss_line, losses_text, stations_reply, stations_status};
 

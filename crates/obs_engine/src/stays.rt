@@ -2,14 +2,16 @@
 ghost use Rattle.std.specs.Prelude.{◌≡◌, ◌<◌, ◌≤◌, ◌+◌, ◌⊎◌, ℕ, List, IfErr, IfOk, IsErrOf, length, map, string_bytes};
 ghost use Rattle.obs_io.specs.Causes.{Rose};
 ghost use Rattle.obs_script.specs.Gathered.{is_comment};
-ghost use Rattle.obs_report.specs.Printed.{Appends};
+ghost use Rattle.obs_report.specs.inner.Printed.{Appends};
 ghost use Rattle.obs_engine.specs.Asks.{report_status};
 ghost use Rattle.obs_files.specs.Limits.{usual_limits};
 ghost use Rattle.obs_files.specs.Outside.{AreFiles, IsFileWord, ReadFailed};
-ghost use Rattle.obs_engine.specs.Forms.{CanRefuse};
+ghost use Rattle.obs_engine.specs.inner.Forms.{CanRefuse};
 ghost use Rattle.obs_engine.specs.Lines.{line_case, line_text};
-ghost use Rattle.obs_engine.specs.Replies.{IsReplied, Reply};
-ghost use Rattle.obs_engine.specs.Stays.{Begins, IsNotBegun, line_reply};
+ghost use Rattle.obs_engine.specs.Replies.{Reply};
+ghost use Rattle.obs_engine.specs.inner.Replies.{IsReplied};
+ghost use Rattle.obs_engine.specs.Stays.{IsNotBegun, line_reply};
+ghost use Rattle.obs_engine.specs.inner.Stays.{Begins};
 ghost use Rattle.obs_files.specs.Words.{file_words, form_of, offers};
 
 use crate::ask_answers::verdict;

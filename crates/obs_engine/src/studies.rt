@@ -1,6 +1,6 @@
 // Studies of a case: what the loss of one branch, of two meters or of a station's meters does. They need no session.
 ghost use Rattle.std.specs.Prelude.{◌≡◌, ◌<◌, Some};
-ghost use Rattle.obs_engine.specs.Replies.{IsReplied};
+ghost use Rattle.obs_engine.specs.inner.Replies.{IsReplied};
 ghost use Rattle.obs_engine.specs.Studies.{study_reply};
 ghost use Rattle.obs_engine.specs.Summaries.{IsWholeAnswer, summary_of};
 

@@ -2,9 +2,10 @@
 ghost use Rattle.std.specs.Prelude.{◌≡◌, ◌<◌, ◌≤◌, IfOk, ℕ, true};
 ghost use Rattle.obs_text.specs.Limits.{most_file_bytes};
 ghost use Rattle.obs_script.specs.declared.command.Ask.TheVariants.{Place};
-ghost use Rattle.obs_engine.specs.Summaries.{IsWholeAnswer, task_summary};
-ghost use Rattle.obs_engine.specs.Tasks.{IsTaskDone};
-ghost use Rattle.obs_engine.specs.Trials.{AreInService};
+ghost use Rattle.obs_engine.specs.Summaries.{IsWholeAnswer};
+ghost use Rattle.obs_engine.specs.inner.Summaries.{task_summary};
+ghost use Rattle.obs_engine.specs.inner.Tasks.{IsTaskDone};
+ghost use Rattle.obs_engine.specs.inner.Trials.{AreInService};
 
 use crate::ask_answers::answer_session;
 use crate::input::answer_lines;

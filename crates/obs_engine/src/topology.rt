@@ -2,8 +2,8 @@
 ghost use Rattle.std.specs.Prelude.{◌≡◌, ◌++◌, codes};
 ghost use Rattle.obs_network.specs.Switched.{case_bus_count, case_buses};
 ghost use Rattle.obs_report.specs.Lines.{count_line, last_line};
-ghost use Rattle.obs_report.specs.Printed.{Appends};
-ghost use Rattle.obs_engine.specs.Replies.{IsReplied};
+ghost use Rattle.obs_report.specs.inner.Printed.{Appends};
+ghost use Rattle.obs_engine.specs.inner.Replies.{IsReplied};
 ghost use Rattle.obs_engine.specs.Topology.{topology_reply, topology_text};
 
 use crate::judged::printed_status;

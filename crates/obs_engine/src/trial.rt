@@ -3,12 +3,13 @@ ghost use Rattle.std.specs.Prelude.{◌≡◌, ◌<◌, ◌≤◌, ◌+◌, ◌-
 ghost use Rattle.obs_network.specs.Network.{network_of};
 ghost use Rattle.obs_network.specs.Switched.{case_bus_count};
 ghost use Rattle.obs_report.specs.Counts.{counts_text};
-ghost use Rattle.obs_report.specs.Printed.{Appends};
+ghost use Rattle.obs_report.specs.inner.Printed.{Appends};
 ghost use Rattle.obs_report.specs.Totals.{totals_text, trial_line};
 ghost use Rattle.obs_network.specs.Observable.{case_rank};
-ghost use Rattle.obs_engine.specs.Replies.{IsReplied};
-ghost use Rattle.obs_engine.specs.Trials.{AreInService, dips_of, edits_of, is_dip, is_first_of_island, island_count, trial_reply};
-ghost use Rattle.obs_engine.specs.Turns.{AreSearches, AreTurns, IsTurn};
+ghost use Rattle.obs_engine.specs.inner.Replies.{IsReplied};
+ghost use Rattle.obs_engine.specs.Trials.{dips_of, edits_of, is_dip, is_first_of_island, island_count, trial_reply};
+ghost use Rattle.obs_engine.specs.inner.Trials.{AreInService};
+ghost use Rattle.obs_engine.specs.inner.Turns.{AreSearches, AreTurns, IsTurn};
 
 use crate::ask_answers::verdict;
 use crate::judged::printed_status;

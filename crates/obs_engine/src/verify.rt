@@ -3,11 +3,11 @@ ghost use Rattle.std.specs.Prelude.{◌≡◌, ◌≤◌, length, List, Result};
 ghost use Rattle.obs_case.specs.Tables.{Tables};
 ghost use Rattle.obs_cert.specs.Claims.{Claim};
 ghost use Rattle.obs_cert.specs.Flaws.{first_flaw};
-ghost use Rattle.obs_cert.specs.Read.{EndsCert};
+ghost use Rattle.obs_cert.specs.inner.Read.{EndsCert};
 ghost use Rattle.obs_cert.specs.declared.fault.CertFault.{CertFault};
 ghost use Rattle.obs_network.specs.Network.{network_of};
 ghost use Rattle.obs_text.specs.Limits.{most_file_bytes};
-ghost use Rattle.obs_engine.specs.Replies.{IsReplied};
+ghost use Rattle.obs_engine.specs.inner.Replies.{IsReplied};
 ghost use Rattle.obs_engine.specs.Verify.{checked_reply, claims_reply, flaw_reply, valid_reply, verify_reply};
 
 use crate::judged::printed_status;

@@ -7,16 +7,17 @@ use Rattle.obs_graph.specs.Graph.{Graph}
 use Rattle.obs_graph.specs.Positions.{branches_at}
 use Rattle.obs_matroid.specs.Lists.{In}
 use Rattle.obs_meter.specs.declared.Touch.{Touch}
-use Rattle.obs_assign.specs.Assignment.{Assignment, IsWhole, StandsOver, has_flag, is_frozen}
+use Rattle.obs_assign.specs.Assignment.{Assignment}
+use Rattle.obs_assign.specs.inner.Assignment.{IsWhole, StandsOver, has_flag, is_frozen}
 use Rattle.obs_assign.proofs.Keeping.{replicate_at}
 use Rattle.obs_assign.proofs.Slotted.{item_slot, none_some}
 use Rattle.obs_exchange.specs.declared.Sources.{Sources}
 use Rattle.obs_exchange.specs.declared.Sources.TheVariants.{All, One}
-use Rattle.obs_exchange.specs.Closed.{IsSource}
-use Rattle.obs_exchange.specs.Found.{CanBegin}
-use Rattle.obs_exchange.specs.Searching.{AreStarred, IsSearching}
-use Rattle.obs_exchange.specs.Setting.{IsSound, Setting, end_of}
-use Rattle.obs_exchange.specs.Trail.{AreFull, Trail, cleared}
+use Rattle.obs_exchange.specs.inner.Closed.{IsSource}
+use Rattle.obs_exchange.specs.inner.Found.{CanBegin}
+use Rattle.obs_exchange.specs.inner.Searching.{AreStarred, IsSearching}
+use Rattle.obs_exchange.specs.inner.Setting.{IsSound, Setting, end_of}
+use Rattle.obs_exchange.specs.inner.Trail.{AreFull, Trail, cleared}
 
 -- where a search may begin, its sources are meters
 pub sources_low : (from : Sources) (a : Assignment) (g : Graph) (touches : List Touch) → CanBegin from a → StandsOver a g touches → end_of from (length touches) ≤ length touches

@@ -8,7 +8,7 @@ use Rattle.obs_graph.specs.Positions.{AreBranches}
 use Rattle.obs_graph.specs.Graph.{Graph}
 use Rattle.obs_matroid.specs.Lists.{In}
 use Rattle.obs_matroid.specs.Assignments.{Pair, items}
-use Rattle.obs_matroid.specs.Closed.{Extends}
+use Rattle.obs_matroid.specs.inner.Closed.{Extends}
 use Rattle.obs_matroid.proofs.Closed.{IsClosed-union, closed_longest}
 use Rattle.obs_matroid.proofs.Lists.{clash}
 use Rattle.obs_matroid.proofs.Pairs.{In-items, same_pair}
@@ -21,10 +21,11 @@ use Rattle.obs_meter.proofs.Assigned.{every-to_live, to_matroid}
 use Rattle.obs_meter.proofs.Instance.{IsMatroid-graph}
 use Rattle.obs_meter.proofs.Live.{live-from_live_items}
 use Rattle.obs_meter.proofs.Touched.{itself_in}
-use Rattle.obs_assign.specs.Assignment.{Assignment, IsWhole, StandsOver, branch_at, is_frozen, pairs}
+use Rattle.obs_assign.specs.Assignment.{Assignment}
+use Rattle.obs_assign.specs.inner.Assignment.{IsWhole, StandsOver, branch_at, is_frozen, pairs}
 use Rattle.obs_assign.proofs.Slotted.{none_some}
 use Rattle.obs_exchange.specs.declared.Sources.TheVariants.{All as AllSources, One}
-use Rattle.obs_exchange.specs.Closed.{IsClosedAt, IsLeastClosedAt}
+use Rattle.obs_exchange.specs.inner.Closed.{IsClosedAt, IsLeastClosedAt}
 use Rattle.obs_exchange.proofs.AtGraph.{IsAssignment-live, IsClosed-to_matroid, bare-from_out}
 use Rattle.obs_exchange.proofs.Walking.{touched_there}
 

@@ -4,8 +4,8 @@ use Rattle.obs_assign.proofs.Keeping.{replicate_at}
 use Rattle.std.proofs.lemmas.Bool.{cases_eq}
 use Rattle.std.proofs.lemmas.List.{take-replicate, get_or-set_same, get_or-set_other}
 use Rattle.obs_matroid.proofs.Lists.{clash}
-use Rattle.obs_assign.specs.Assignment.{has_flag}
-use Rattle.obs_exchange.specs.Blank.{AreClear, AreLedFrom, AreListedFrom, AreNumbers, IsEntry}
+use Rattle.obs_assign.specs.inner.Assignment.{has_flag}
+use Rattle.obs_exchange.specs.inner.Blank.{AreClear, AreLedFrom, AreListedFrom, AreNumbers, IsEntry}
 use Rattle.obs_exchange.proofs.Queued.{flag-from}
 
 pub none_set : (n k : ℕ) (flags after : List Bool) → AreClear n flags → k ≡ n → after ≡ take k flags → after ≡ replicate n false

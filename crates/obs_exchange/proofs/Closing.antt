@@ -5,9 +5,11 @@ use Rattle.std.proofs.lemmas.List.{get_or_default, get_or_past, get_or-take, len
 use Rattle.obs_graph.specs.declared.Ends.{Ends}
 use Rattle.obs_graph.proofs.Counts.{count_below-le-n}
 use Rattle.obs_matroid.specs.Lists.{In}
-use Rattle.obs_matroid.specs.Assignments.{IsAssignment, Pair, others}
-use Rattle.obs_matroid.specs.Closed.{HoldsSources, IsClosed, IsLeastClosed}
-use Rattle.obs_matroid.specs.Matroid.{IsMatroid, Matroid}
+use Rattle.obs_matroid.specs.Assignments.{IsAssignment, Pair}
+use Rattle.obs_matroid.specs.inner.Assignments.{others}
+use Rattle.obs_matroid.specs.inner.Closed.{HoldsSources, IsClosed, IsLeastClosed}
+use Rattle.obs_matroid.specs.Matroid.{Matroid}
+use Rattle.obs_matroid.specs.inner.Matroid.{IsMatroid}
 use Rattle.obs_matroid.proofs.Closed.{closed_adds_none}
 use Rattle.obs_matroid.proofs.Contained.{Contains-from_In, In-get_or, IsDistinct-from_pairs}
 use Rattle.obs_matroid.proofs.Queue.{IsQueue, queue_closed}
@@ -20,17 +22,18 @@ use Rattle.obs_meter.proofs.Instance.{IsMatroid-graph}
 use Rattle.obs_meter.proofs.Touched.{live-from_In}
 use Rattle.obs_meter.proofs.Live.{In-every, live_low}
 use Rattle.obs_assign.specs.declared.Move.{Move}
-use Rattle.obs_assign.specs.Assignment.{Assignment, branch_at, has_flag, is_frozen, pairs}
-use Rattle.obs_assign.specs.Pins.{joins}
+use Rattle.obs_assign.specs.Assignment.{Assignment}
+use Rattle.obs_assign.specs.inner.Assignment.{branch_at, has_flag, is_frozen, pairs}
+use Rattle.obs_assign.specs.inner.Pins.{joins}
 use Rattle.obs_assign.proofs.Slotted.{item_slot}
 use Rattle.obs_assign.proofs.Standing.{IsAssignmentAt-standing}
 use Rattle.obs_exchange.specs.declared.Sources.{Sources}
 use Rattle.obs_exchange.specs.declared.Sources.TheVariants.{All, One}
-use Rattle.obs_exchange.specs.Closed.{HoldsSourcesAt, IsClosedAt, IsLeastClosedAt, IsSource}
-use Rattle.obs_exchange.specs.Found.{AddsSource, AreListed, HasClosed}
-use Rattle.obs_exchange.specs.Searching.{AreMarked, HasOrigin, IsDone, IsParent, IsSearching, IsWalked, parent_of, place_of}
-use Rattle.obs_exchange.specs.Setting.{IsSound, IsSourceIn, Setting, end_of, first_of, touched_in}
-use Rattle.obs_exchange.specs.Trail.{IsRoot, Trail}
+use Rattle.obs_exchange.specs.inner.Closed.{HoldsSourcesAt, IsClosedAt, IsLeastClosedAt, IsSource}
+use Rattle.obs_exchange.specs.inner.Found.{AddsSource, AreListed, HasClosed}
+use Rattle.obs_exchange.specs.inner.Searching.{AreMarked, HasOrigin, IsDone, IsParent, IsSearching, IsWalked, parent_of, place_of}
+use Rattle.obs_exchange.specs.inner.Setting.{IsSound, IsSourceIn, Setting, end_of, first_of, touched_in}
+use Rattle.obs_exchange.specs.inner.Trail.{IsRoot, Trail}
 use Rattle.obs_exchange.proofs.Beginning.{source_bare}
 use Rattle.obs_exchange.proofs.Queued.{has_pair}
 use Rattle.obs_exchange.proofs.AtGraph.{bare-from_out, out-from_bare}

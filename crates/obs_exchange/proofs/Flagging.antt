@@ -3,8 +3,8 @@ use Rattle.std.proofs.Common.{◌≡◌, ℕ, ◌+◌, ◌*◌, ◌/◌, ◌<◌
 use Rattle.std.proofs.lemmas.Bool.{cases_Bool, cases_eq, cases_lt}
 use Rattle.std.proofs.lemmas.List.{get_or_past}
 use Rattle.obs_matroid.proofs.Lists.{clash}
-use Rattle.obs_assign.specs.Assignment.{has_flag}
-use Rattle.obs_exchange.specs.Noting.{AreBlocks}
+use Rattle.obs_assign.specs.inner.Assignment.{has_flag}
+use Rattle.obs_exchange.specs.inner.Noting.{AreBlocks}
 
 -- only a place within the list has a flag
 flag_low : (flags : List Bool) (k : ℕ) → has_flag flags k ≡ true → k < length flags

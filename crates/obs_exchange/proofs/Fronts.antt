@@ -1,6 +1,6 @@
 -- How many of the first branches at each vertex were walked, by flags and counts.
 use Rattle.std.proofs.Common.{◌≡◌, ℕ, zero, suc, ◌<◌, Bool, true, false, cond, List, [], ◌∷◌, length, get_or, set, replicate, refl, sym, ap, ◌∙◌, arith}
-use Rattle.obs_exchange.specs.Stars.{fronts_of}
+use Rattle.obs_exchange.specs.inner.Stars.{fronts_of}
 
 pub length-fronts_of : (bs : List Bool) (ns : List ℕ) → length (fronts_of bs ns) ≡ length bs
 length-fronts_of [] ns = refl

@@ -3,23 +3,25 @@ use Rattle.std.proofs.Common.{◌≡◌, ℕ, ◌+◌, ◌<◌, false, Option, S
 use Rattle.std.proofs.lemmas.List.{get_or-set_other, get_or-set_same}
 use Rattle.obs_graph.specs.declared.Ends.{Ends}
 use Rattle.obs_matroid.specs.Lists.{In, other_than}
-use Rattle.obs_matroid.specs.Assignments.{branches, others, part}
+use Rattle.obs_matroid.specs.Assignments.{branches}
+use Rattle.obs_matroid.specs.inner.Assignments.{others, part}
 use Rattle.obs_matroid.proofs.Contained.{In-from_All}
 use Rattle.obs_matroid.proofs.Lists.{clash}
 use Rattle.obs_matroid.proofs.Pairs.{In-part_from, branches_within}
 use Rattle.obs_meter.specs.declared.Touch.{Touch}
 use Rattle.obs_meter.specs.Spanned.{ends_at}
 use Rattle.obs_assign.specs.declared.Move.{Move}
-use Rattle.obs_assign.specs.Assignment.{Assignment, IsWhole, branch_at, is_frozen, pairs}
-use Rattle.obs_assign.specs.Moves.{ArePath, moved, turned}
+use Rattle.obs_assign.specs.Assignment.{Assignment}
+use Rattle.obs_assign.specs.inner.Assignment.{IsWhole, branch_at, is_frozen, pairs}
+use Rattle.obs_assign.specs.inner.Moves.{ArePath, moved, turned}
 use Rattle.obs_assign.proofs.Free.{ArePath-one, IsAssignmentAt-free}
 use Rattle.obs_assign.proofs.Moving.{moved-some, has_some}
 use Rattle.obs_assign.proofs.Paths.{joined-less}
 use Rattle.obs_assign.proofs.Slotted.{item_slot, none_some}
 use Rattle.obs_exchange.specs.declared.Sources.{Sources}
-use Rattle.obs_exchange.specs.Found.{HasGrown}
-use Rattle.obs_exchange.specs.Searching.{BeginsAtSource, IsFreeFor, IsReady}
-use Rattle.obs_exchange.specs.Setting.{IsSound, IsSourceIn, Setting}
+use Rattle.obs_exchange.specs.inner.Found.{HasGrown}
+use Rattle.obs_exchange.specs.inner.Searching.{BeginsAtSource, IsFreeFor, IsReady}
+use Rattle.obs_exchange.specs.inner.Setting.{IsSound, IsSourceIn, Setting}
 use Rattle.obs_exchange.proofs.Beginning.{source_bare}
 
 -- a meter that is in no move keeps what it has

@@ -6,10 +6,11 @@ use Rattle.obs_graph.specs.declared.Ends.{Ends}
 use Rattle.obs_graph.specs.Positions.{AreBranches}
 use Rattle.obs_graph.specs.Graph.{Graph}
 use Rattle.obs_matroid.specs.Lists.{In, IsDistinct, without}
-use Rattle.obs_matroid.specs.Assignments.{Pair, items, part}
-use Rattle.obs_matroid.specs.Closed.{Extends}
-use Rattle.obs_matroid.specs.Components.{is_of}
-use Rattle.obs_matroid.specs.Critical.{IsCritical}
+use Rattle.obs_matroid.specs.Assignments.{Pair, items}
+use Rattle.obs_matroid.specs.inner.Assignments.{part}
+use Rattle.obs_matroid.specs.inner.Closed.{Extends}
+use Rattle.obs_matroid.specs.inner.Components.{is_of}
+use Rattle.obs_matroid.specs.inner.Critical.{IsCritical}
 use Rattle.obs_matroid.specs.Values.{is_critical}
 use Rattle.obs_matroid.proofs.Closed.{closed_longest}
 use Rattle.obs_matroid.proofs.Components.{component_longest, component_tight}
@@ -20,21 +21,24 @@ use Rattle.obs_matroid.proofs.Lists.{clash}
 use Rattle.obs_matroid.proofs.Slots.{slot_at, slot_from}
 use Rattle.obs_matroid.proofs.Comparing.{cases_Option}
 use Rattle.obs_meter.specs.declared.Touch.{Touch}
-use Rattle.obs_meter.specs.Assignments.{IsAssignmentAt, IsRhoAt, bound_at}
+use Rattle.obs_meter.specs.Assignments.{IsAssignmentAt, IsRhoAt}
+use Rattle.obs_meter.specs.inner.Assignments.{bound_at}
 use Rattle.obs_meter.specs.Spanned.{graph_matroid}
 use Rattle.obs_meter.specs.Touches.{every_item, is_live, live_items, touch_at}
 use Rattle.obs_meter.proofs.Assigned.{every-to_live, live_items-distinct, rho-from_matroid, rho-to_matroid, to_matroid}
 use Rattle.obs_meter.proofs.Instance.{IsMatroid-graph}
 use Rattle.obs_meter.proofs.Live.{In-live}
-use Rattle.obs_assign.specs.Assignment.{Assignment, IsWhole, StandsOver, branch_at, is_frozen, pairs}
+use Rattle.obs_assign.specs.Assignment.{Assignment}
+use Rattle.obs_assign.specs.inner.Assignment.{IsWhole, StandsOver, branch_at, is_frozen, pairs}
 use Rattle.obs_assign.proofs.Slotted.{item_slot, none_some, slot_item}
 use Rattle.obs_assign.proofs.Standing.{IsAssignmentAt-standing}
 use Rattle.obs_exchange.specs.declared.Found.{Found}
 use Rattle.obs_exchange.specs.declared.Found.TheVariants.{Closed, Grown}
 use Rattle.obs_exchange.specs.declared.Sources.{Sources}
 use Rattle.obs_exchange.specs.Critical.{IsCriticalAt, critical_at}
-use Rattle.obs_exchange.specs.Found.{AddsSource, HasGrown, IsFound}
-use Rattle.obs_exchange.specs.Laws.{HasClosedSet, HoldsNonCritical, IsThawed, JoinsWithinKinds, TouchesOneKind, noncritical_in}
+use Rattle.obs_exchange.specs.inner.Found.{AddsSource, HasGrown, IsFound}
+use Rattle.obs_exchange.specs.Laws.{noncritical_in}
+use Rattle.obs_exchange.specs.inner.Laws.{HasClosedSet, HoldsNonCritical, IsThawed, JoinsWithinKinds, TouchesOneKind}
 use Rattle.obs_exchange.proofs.AtGraph.{IsAssignment-live, IsLeastClosed-thawed, IsLeastClosed-to_matroid}
 
 -- critical over the graph is critical over its matroid

@@ -14,12 +14,13 @@ use Rattle.obs_matroid.proofs.Ranks.{rank-independent}
 use Rattle.obs_meter.specs.Spanned.{graph_matroid}
 use Rattle.obs_meter.proofs.Instance.{IsMatroid-graph}
 use Rattle.obs_meter.specs.declared.Touch.{Touch}
-use Rattle.obs_meter.specs.Sizes.{HasRoomFor, Sizes}
-use Rattle.obs_assign.specs.Assignment.{Assignment, HasRoomOf, IsWhole, StandsOver, branch_at, has_flag, is_frozen, pairs}
+use Rattle.obs_meter.specs.inner.Sizes.{HasRoomFor, Sizes}
+use Rattle.obs_assign.specs.Assignment.{Assignment}
+use Rattle.obs_assign.specs.inner.Assignment.{HasRoomOf, IsWhole, StandsOver, branch_at, has_flag, is_frozen, pairs}
 use Rattle.obs_exchange.specs.declared.Sources.TheVariants.{All}
-use Rattle.obs_exchange.specs.Found.{HasClosed, HasGrown}
-use Rattle.obs_exchange.specs.Laws.{HasClosedSet, IsThawed}
-use Rattle.obs_exchange.specs.Lengthened.{HasLengthened}
+use Rattle.obs_exchange.specs.inner.Found.{HasClosed, HasGrown}
+use Rattle.obs_exchange.specs.inner.Laws.{HasClosedSet, IsThawed}
+use Rattle.obs_exchange.specs.inner.Lengthened.{HasLengthened}
 use Rattle.obs_exchange.proofs.AtGraph.{IsAssignment-live}
 
 -- the same room twice over

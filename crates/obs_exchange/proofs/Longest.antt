@@ -5,15 +5,16 @@ use Rattle.obs_graph.specs.Positions.{AreBranches}
 use Rattle.obs_graph.specs.Graph.{Graph}
 use Rattle.obs_meter.specs.declared.Touch.{Touch}
 use Rattle.obs_meter.proofs.Assigned.{every-to_live, live-to_every}
-use Rattle.obs_assign.specs.Assignment.{Assignment, IsWhole, StandsOver, has_flag, pairs}
+use Rattle.obs_assign.specs.Assignment.{Assignment}
+use Rattle.obs_assign.specs.inner.Assignment.{IsWhole, StandsOver, has_flag, pairs}
 use Rattle.obs_assign.proofs.Standing.{IsAssignmentAt-standing}
 use Rattle.obs_exchange.specs.declared.Sources.TheVariants.{All}
-use Rattle.obs_exchange.specs.Found.{HasClosed, HasGrown}
-use Rattle.obs_exchange.specs.Laws.{IsThawed}
-use Rattle.obs_exchange.specs.Lengthened.{HasLengthened}
+use Rattle.obs_exchange.specs.inner.Found.{HasClosed, HasGrown}
+use Rattle.obs_exchange.specs.inner.Laws.{IsThawed}
+use Rattle.obs_exchange.specs.inner.Lengthened.{HasLengthened}
 use Rattle.obs_exchange.proofs.Lawful.{closed_rho}
 use Rattle.obs_exchange.proofs.Lengthening.{bare-thawed, closed_set, thawed-lengthened}
-use Rattle.obs_exchange.specs.Longest.{IsLongest, IsMost}
+use Rattle.obs_exchange.specs.inner.Longest.{IsLongest, IsMost}
 
 -- the searches ended with a closed set, or with as many pairs as there can be
 pub IsLongest-ended : (g : Graph) (touches : List Touch) (a : Assignment) (flags : List Bool) (most : ℕ) (closed : Bool) → AreBranches g.vertices g.ends

@@ -9,22 +9,24 @@ use Rattle.obs_graph.specs.declared.Ends.{Ends}
 use Rattle.obs_graph.specs.Graph.{Graph}
 use Rattle.obs_matroid.specs.Lists.{In}
 use Rattle.obs_matroid.specs.Assignments.{Pair}
-use Rattle.obs_matroid.specs.Slots.{pairs_of}
+use Rattle.obs_matroid.specs.inner.Slots.{pairs_of}
 use Rattle.obs_matroid.proofs.Comparing.{cases_Option}
 use Rattle.obs_matroid.proofs.Lists.{In-filter_from, clash}
 use Rattle.obs_meter.specs.declared.Touch.{Touch}
 use Rattle.obs_meter.specs.declared.Touch.TheVariants.{Nothing}
 use Rattle.obs_meter.specs.Assignments.{IsAssignmentAt, IsRhoAt}
 use Rattle.obs_meter.specs.Held.{Meters}
-use Rattle.obs_meter.specs.Lost.{is_listed, left_of, losing}
+use Rattle.obs_meter.specs.Lost.{is_listed, losing}
+use Rattle.obs_meter.specs.inner.Lost.{left_of}
 use Rattle.obs_meter.specs.Touches.{every_item, live_items}
 use Rattle.obs_meter.proofs.Assigned.{every-to_live}
 use Rattle.obs_meter.proofs.Lost.{assignment-lost, length-losing, live_items-losing, losing-again, losing-but, losing-none, losing-same, rho-lost, touch-left, touch-lost}
-use Rattle.obs_assign.specs.Assignment.{Assignment, HasRoomOf, IsWhole, StandsOver, branch_at, pairs}
+use Rattle.obs_assign.specs.Assignment.{Assignment}
+use Rattle.obs_assign.specs.inner.Assignment.{HasRoomOf, IsWhole, StandsOver, branch_at, pairs}
 use Rattle.obs_assign.proofs.Moving.{length-put_bare}
 use Rattle.obs_assign.proofs.Slotted.{none_some}
-use Rattle.obs_exchange.specs.Laws.{IsThawed}
-use Rattle.obs_exchange.specs.Longest.{IsLongest, IsMost}
+use Rattle.obs_exchange.specs.inner.Laws.{IsThawed}
+use Rattle.obs_exchange.specs.inner.Longest.{IsLongest, IsMost}
 use Rattle.obs_exchange.proofs.Lengthening.{rooms}
 
 -- pairs stand over what is left exactly where they stand, and no lost meter has one

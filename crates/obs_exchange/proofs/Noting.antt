@@ -6,15 +6,16 @@ use Rattle.obs_graph.specs.declared.Ends.{Ends}
 use Rattle.obs_matroid.proofs.Comparing.{cases_Option}
 use Rattle.obs_matroid.proofs.Lists.{clash}
 use Rattle.obs_meter.specs.declared.Touch.{Touch}
-use Rattle.obs_assign.specs.Assignment.{Assignment, branch_at, has_flag}
+use Rattle.obs_assign.specs.Assignment.{Assignment}
+use Rattle.obs_assign.specs.inner.Assignment.{branch_at, has_flag}
 use Rattle.obs_assign.proofs.Slotted.{none_some}
 use Rattle.obs_exchange.specs.declared.Sources.{Sources}
 use Rattle.obs_exchange.specs.declared.Sources.TheVariants.{All, One}
-use Rattle.obs_exchange.specs.Closed.{IsSource}
-use Rattle.obs_exchange.specs.Found.{HasGrown}
-use Rattle.obs_exchange.specs.Noting.{AreNoted, AreNotedIn, Noted, is_noted}
-use Rattle.obs_exchange.specs.Setting.{IsSourceIn, Setting}
-use Rattle.obs_exchange.specs.Trail.{Keeps}
+use Rattle.obs_exchange.specs.inner.Closed.{IsSource}
+use Rattle.obs_exchange.specs.inner.Found.{HasGrown}
+use Rattle.obs_exchange.specs.inner.Noting.{AreNoted, AreNotedIn, Noted, is_noted}
+use Rattle.obs_exchange.specs.inner.Setting.{IsSourceIn, Setting}
+use Rattle.obs_exchange.specs.inner.Trail.{Keeps}
 use Rattle.obs_exchange.proofs.Beginning.{source_bare}
 
 -- where all meters are noted, the sources are

@@ -5,7 +5,8 @@ use Rattle.std.proofs.lemmas.Bool.{and_from, and_parts, cases_Bool, cases_eq, ca
 use Rattle.std.proofs.lemmas.List.{get_or-drop, get_or-set_other, get_or-set_same, get_or_default, get_or_past, length-drop, length-set}
 use Rattle.std.proofs.lemmas.List.Folds.{list_any_more}
 use Rattle.obs_matroid.specs.Lists.{In}
-use Rattle.obs_matroid.specs.Assignments.{IsAssignment, Pair, branches, part}
+use Rattle.obs_matroid.specs.Assignments.{IsAssignment, Pair, branches}
+use Rattle.obs_matroid.specs.inner.Assignments.{part}
 use Rattle.obs_matroid.proofs.Contained.{Contains-from_In, In-get_or}
 use Rattle.obs_matroid.proofs.Lists.{clash, filter_same}
 use Rattle.obs_matroid.proofs.Queue.{queue_grows}
@@ -18,18 +19,19 @@ use Rattle.obs_meter.proofs.Assigned.{every-to_live, from_matroid}
 use Rattle.obs_meter.proofs.Lost.{live-losing, touch-left, touch-lost}
 use Rattle.obs_meter.proofs.Touched.{In-from_any, any-from_In}
 use Rattle.obs_assign.specs.declared.Move.{Move}
-use Rattle.obs_assign.specs.Assignment.{Assignment, branch_at, has_flag, is_frozen, pairs}
-use Rattle.obs_assign.specs.Pins.{joins}
+use Rattle.obs_assign.specs.Assignment.{Assignment}
+use Rattle.obs_assign.specs.inner.Assignment.{branch_at, has_flag, is_frozen, pairs}
+use Rattle.obs_assign.specs.inner.Pins.{joins}
 use Rattle.obs_assign.proofs.Slotted.{none_some}
 use Rattle.obs_exchange.specs.declared.progress.Progress.{Progress}
 use Rattle.obs_exchange.specs.declared.Sources.{Sources}
 use Rattle.obs_exchange.specs.declared.Sources.TheVariants.{All}
-use Rattle.obs_exchange.specs.Closed.{IsClosedAt, IsLeastClosedAt, IsSource}
-use Rattle.obs_exchange.specs.Longest.{IsLongest}
-use Rattle.obs_exchange.specs.Ordered.{AreReachedInOrder, HoldsTestedAt, IsLeastClosedFrom, IsPlacing, reached_before}
-use Rattle.obs_exchange.specs.Searching.{IsDone, IsEnd, IsResting, IsSearching, place_of}
-use Rattle.obs_exchange.specs.Setting.{IsSourceIn, Setting, touched_in}
-use Rattle.obs_exchange.specs.Trail.{AreLedBut, Follows, IsRoot, Trail}
+use Rattle.obs_exchange.specs.inner.Closed.{IsClosedAt, IsLeastClosedAt, IsSource}
+use Rattle.obs_exchange.specs.inner.Longest.{IsLongest}
+use Rattle.obs_exchange.specs.inner.Ordered.{AreReachedInOrder, HoldsTestedAt, IsLeastClosedFrom, IsPlacing, reached_before}
+use Rattle.obs_exchange.specs.inner.Searching.{IsDone, IsEnd, IsResting, IsSearching, place_of}
+use Rattle.obs_exchange.specs.inner.Setting.{IsSourceIn, Setting, touched_in}
+use Rattle.obs_exchange.specs.inner.Trail.{AreLedBut, Follows, IsRoot, Trail}
 use Rattle.obs_exchange.proofs.AtGraph.{bare-from_out}
 use Rattle.obs_exchange.proofs.Closing.{IsQueue-search, entry_at, least_from, marked_closed, marked_live, matroid_in, matroid_laws, own_pairs, pair_at, passes_in, queue_len, root_at, to_closed}
 

@@ -6,15 +6,16 @@ use Rattle.std.proofs.lemmas.List.{get_or-set_same, get_or-set_other}
 use Rattle.obs_graph.specs.declared.Ends.{Ends}
 use Rattle.obs_graph.proofs.Counts.{count_below-one_more, count_below-le-n}
 use Rattle.obs_matroid.specs.Lists.{In}
-use Rattle.obs_matroid.specs.Assignments.{Pair, branches, items, others}
+use Rattle.obs_matroid.specs.Assignments.{Pair, branches, items}
+use Rattle.obs_matroid.specs.inner.Assignments.{others}
 use Rattle.obs_matroid.proofs.Lists.{clash, cases_In}
 use Rattle.obs_matroid.proofs.Exchange.{part_out}
 use Rattle.obs_assign.specs.declared.Move.{Move}
-use Rattle.obs_assign.specs.Assignment.{has_flag, is_frozen, pairs}
-use Rattle.obs_assign.specs.Pins.{joins}
-use Rattle.obs_exchange.specs.Searching.{HasOrigin, IsNeededOf, IsParent, IsSearching, IsVisiting, parent_of, place_in, place_of}
-use Rattle.obs_exchange.specs.Setting.{IsSourceIn, Setting, touched_in}
-use Rattle.obs_exchange.specs.Trail.{Keeps, Trail, pushed}
+use Rattle.obs_assign.specs.inner.Assignment.{has_flag, is_frozen, pairs}
+use Rattle.obs_assign.specs.inner.Pins.{joins}
+use Rattle.obs_exchange.specs.inner.Searching.{HasOrigin, IsNeededOf, IsParent, IsSearching, IsVisiting, parent_of, place_in, place_of}
+use Rattle.obs_exchange.specs.inner.Setting.{IsSourceIn, Setting, touched_in}
+use Rattle.obs_exchange.specs.inner.Trail.{Keeps, Trail, pushed}
 
 -- flags after one was set
 pub flag-set : (flags : List Bool) (x : ℕ) → x < length flags → has_flag (set flags x true) x ≡ true

@@ -5,13 +5,14 @@ use Rattle.obs_graph.specs.declared.Ends.{Ends}
 use Rattle.obs_matroid.proofs.Contained.{All-from_In, In-from_All}
 use Rattle.obs_meter.specs.declared.Touch.{Touch}
 use Rattle.obs_assign.specs.declared.Move.{Move}
-use Rattle.obs_assign.specs.Assignment.{Assignment, has_flag}
-use Rattle.obs_assign.specs.Moves.{ArePath}
+use Rattle.obs_assign.specs.Assignment.{Assignment}
+use Rattle.obs_assign.specs.inner.Assignment.{has_flag}
+use Rattle.obs_assign.specs.inner.Moves.{ArePath}
 use Rattle.obs_assign.proofs.Slotted.{slot_item}
 use Rattle.obs_exchange.specs.declared.Sources.{Sources}
 use Rattle.obs_exchange.specs.declared.Sources.TheVariants.{All as AllSources, One}
-use Rattle.obs_exchange.specs.Searching.{BeginsAtSource, CanMove, IsReady}
-use Rattle.obs_exchange.specs.Setting.{IsOpen, IsSound, Setting, frozen_by, shut_by}
+use Rattle.obs_exchange.specs.inner.Searching.{BeginsAtSource, CanMove, IsReady}
+use Rattle.obs_exchange.specs.inner.Setting.{IsOpen, IsSound, Setting, frozen_by, shut_by}
 
 frozen_none : (fs : List Bool) (es : List (Option ℕ)) → frozen_by fs [] es ≡ fs
 frozen_none [] es = refl

@@ -4,8 +4,8 @@ use Rattle.std.specs.Prelude.{AllPairs}
 use Rattle.std.proofs.lemmas.List.{drop-set, drop_all}
 use Rattle.obs_matroid.specs.Lists.{In, IsDistinct, other_than}
 use Rattle.obs_matroid.specs.Assignments.{Pair, items}
-use Rattle.obs_matroid.specs.Exchange.{put, put_all}
-use Rattle.obs_matroid.specs.Slots.{pairs_of}
+use Rattle.obs_matroid.specs.inner.Exchange.{put, put_all}
+use Rattle.obs_matroid.specs.inner.Slots.{pairs_of}
 use Rattle.obs_matroid.proofs.Contained.{All-from_In, In-get_or}
 use Rattle.obs_matroid.proofs.Exchange.{put_all_stays}
 use Rattle.obs_matroid.proofs.Lists.{other_ne}
@@ -17,13 +17,13 @@ use Rattle.obs_meter.specs.Assignments.{IsAssignmentAt}
 use Rattle.obs_meter.specs.Touches.{every_item}
 use Rattle.obs_meter.proofs.Assigned.{from_matroid}
 use Rattle.obs_assign.specs.declared.Move.{Move}
-use Rattle.obs_assign.specs.Assignment.{branch_at, has_flag, is_frozen, pairs}
-use Rattle.obs_assign.specs.Moves.{IsPath, moved}
+use Rattle.obs_assign.specs.inner.Assignment.{branch_at, has_flag, is_frozen, pairs}
+use Rattle.obs_assign.specs.inner.Moves.{IsPath, moved}
 use Rattle.obs_assign.proofs.Moving.{moved_pairs, pair_of}
 use Rattle.obs_assign.proofs.Slotted.{item_slot, none_some}
-use Rattle.obs_exchange.specs.Searching.{IsEnd, IsParent, IsReady, parent_of, place_of}
-use Rattle.obs_exchange.specs.Setting.{IsSourceIn, Setting, touched_in}
-use Rattle.obs_exchange.specs.Trail.{Trail}
+use Rattle.obs_exchange.specs.inner.Searching.{IsEnd, IsParent, IsReady, parent_of, place_of}
+use Rattle.obs_exchange.specs.inner.Setting.{IsSourceIn, Setting, touched_in}
+use Rattle.obs_exchange.specs.inner.Trail.{Trail}
 use Rattle.obs_exchange.proofs.Closing.{IsQueue-search, matroid_in, matroid_laws, origin_parent, origin_source, own_pairs, pair_at, pair_some, passes_in, root_at, root_none, root_some, source_in, tail_low}
 use Rattle.obs_exchange.proofs.Queued.{has_pair}
 

@@ -5,9 +5,9 @@ use Rattle.obs_graph.specs.Graph.{Graph}
 use Rattle.obs_meter.specs.declared.Touch.{Touch}
 use Rattle.obs_assign.specs.declared.Move.{Move}
 use Rattle.obs_exchange.specs.declared.progress.Progress.{Progress}
-use Rattle.obs_exchange.specs.Searching.{HasRoomIn, IsAsLarge, IsRunning, RunsOn}
-use Rattle.obs_exchange.specs.Setting.{IsOpen, Setting}
-use Rattle.obs_exchange.specs.Trail.{AreLed, AreLedBut, Follows, IsRoot, Stays, Trail, pushed}
+use Rattle.obs_exchange.specs.inner.Searching.{HasRoomIn, IsAsLarge, IsRunning, RunsOn}
+use Rattle.obs_exchange.specs.inner.Setting.{IsOpen, Setting}
+use Rattle.obs_exchange.specs.inner.Trail.{AreLed, AreLedBut, Follows, IsRoot, Stays, Trail, pushed}
 use Rattle.obs_exchange.proofs.Queued.{flag-kept}
 
 pub Follows-same : (t : Trail) → Follows t t

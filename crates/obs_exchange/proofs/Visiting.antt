@@ -8,11 +8,11 @@ use Rattle.obs_matroid.proofs.Contained.{Contains-from_In}
 use Rattle.obs_meter.specs.declared.Hub.{Hub}
 use Rattle.obs_meter.proofs.Touched.{In-take_more}
 use Rattle.obs_assign.specs.declared.Move.{Move}
-use Rattle.obs_assign.specs.Assignment.{has_flag}
-use Rattle.obs_exchange.specs.Classes.{AreClasses}
-use Rattle.obs_exchange.specs.Searching.{AreStarred, AreWalkedOf, HasOrigin, IsParent, IsSearching, IsVisiting, IsWalked, parent_of, place_of}
-use Rattle.obs_exchange.specs.Setting.{Setting, touched_in}
-use Rattle.obs_exchange.specs.Trail.{Keeps, Stays, Trail}
+use Rattle.obs_assign.specs.inner.Assignment.{has_flag}
+use Rattle.obs_exchange.specs.inner.Classes.{AreClasses}
+use Rattle.obs_exchange.specs.inner.Searching.{AreStarred, AreWalkedOf, HasOrigin, IsParent, IsSearching, IsVisiting, IsWalked, parent_of, place_of}
+use Rattle.obs_exchange.specs.inner.Setting.{Setting, touched_in}
+use Rattle.obs_exchange.specs.inner.Trail.{Keeps, Stays, Trail}
 use Rattle.obs_exchange.proofs.Queued.{flag-from, flag-kept}
 use Rattle.obs_exchange.proofs.Trails.{Stays-then}
 

@@ -6,14 +6,15 @@ use Rattle.std.proofs.lemmas.Bool.{cases_eq, cases_Bool}
 use Rattle.obs_graph.specs.declared.Ends.{Ends}
 use Rattle.obs_graph.specs.Joined.{first_joined, is_joined}
 use Rattle.obs_graph.specs.Positions.{ends_of, present}
-use Rattle.obs_graph.specs.Search.{IsPart}
+use Rattle.obs_graph.specs.inner.Search.{IsPart}
 use Rattle.obs_graph.specs.Graph.{Graph}
 use Rattle.obs_graph.proofs.AtPositions.{contains-ends_of, ends_of-contains, some_of}
 use Rattle.obs_graph.proofs.Forests.{same_first-among}
 use Rattle.obs_graph.proofs.IsJoined.{same-from_true, apart-from_false, false-from_apart}
 use Rattle.obs_graph.proofs.Present.{present_contains, present_low}
 use Rattle.obs_matroid.specs.Lists.{In, other_than}
-use Rattle.obs_matroid.specs.Assignments.{branches, items, others, part}
+use Rattle.obs_matroid.specs.Assignments.{branches, items}
+use Rattle.obs_matroid.specs.inner.Assignments.{others, part}
 use Rattle.obs_matroid.proofs.Lists.{clash, other_true, other_ne}
 use Rattle.obs_matroid.proofs.Pairs.{In-branches, In-branches_from, In-part, In-part_from}
 use Rattle.obs_matroid.proofs.Contained.{Contains-from_In, In-from_Contains}
@@ -23,11 +24,12 @@ use Rattle.obs_meter.specs.declared.Touch.TheVariants.{Nothing}
 use Rattle.obs_meter.specs.Spanned.{ends_at, joined_at}
 use Rattle.obs_meter.specs.Touches.{touch_at}
 use Rattle.obs_meter.proofs.Touched.{touched-present}
-use Rattle.obs_forest.specs.Cycle.{without}
+use Rattle.obs_forest.specs.inner.Cycle.{without}
 use Rattle.obs_forest.proofs.Attaching.{without-some}
 use Rattle.obs_forest.proofs.Without.{other_present}
-use Rattle.obs_assign.specs.Assignment.{Assignment, IsWhole, StandsOver, branch_at, has_flag, is_frozen, pairs}
-use Rattle.obs_assign.specs.Pins.{joins}
+use Rattle.obs_assign.specs.Assignment.{Assignment}
+use Rattle.obs_assign.specs.inner.Assignment.{IsWhole, StandsOver, branch_at, has_flag, is_frozen, pairs}
+use Rattle.obs_assign.specs.inner.Pins.{joins}
 use Rattle.obs_assign.proofs.Paths.{apart-pairs, apart_ends, ends_are, held_at, joined-pairs, joins-from}
 use Rattle.obs_assign.proofs.Slotted.{branch_slot, item_slot, slot_branch, slots_apart, some_same}
 use Rattle.obs_exchange.proofs.Queued.{eqb_false}

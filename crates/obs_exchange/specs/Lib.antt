@@ -1,14 +1,3 @@
-pub mod Closed
-pub mod Found
-pub mod Lengthened
-pub mod Noting
-pub mod Setting
-pub mod Trail
-pub mod Searching
-pub mod Ordered
-pub mod Classes
 pub mod Critical
 pub mod Laws
-pub mod Blank
-pub mod Stars
-pub mod Longest
+pub mod inner

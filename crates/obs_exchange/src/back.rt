@@ -1,6 +1,6 @@
 // The way back from a meter that is to lose its pair to a source: a hint, on which nothing rests.
 ghost use Rattle.std.specs.Prelude.{◌≡◌, length};
-ghost use Rattle.obs_assign.specs.Assignment.{StandsOver};
+ghost use Rattle.obs_assign.specs.inner.Assignment.{StandsOver};
 
 use crate::flags::Flags;
 use crate::memory::NoMemory;

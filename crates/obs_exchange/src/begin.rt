@@ -1,10 +1,10 @@
 // The sources, one after the other.
 ghost use Rattle.std.specs.Prelude.{◌≡◌, ◌<◌, ◌≤◌, true, IfSome, MatchOption, length};
-ghost use Rattle.obs_assign.specs.Assignment.{has_flag};
-ghost use Rattle.obs_exchange.specs.Noting.{AreNotedIn};
-ghost use Rattle.obs_exchange.specs.Searching.{AreMarked, IsDone, IsEnd, IsResting, RunsOn};
-ghost use Rattle.obs_exchange.specs.Setting.{IsSourceIn, end_of, first_of};
-ghost use Rattle.obs_exchange.specs.Trail.{AreLedBut};
+ghost use Rattle.obs_assign.specs.inner.Assignment.{has_flag};
+ghost use Rattle.obs_exchange.specs.inner.Noting.{AreNotedIn};
+ghost use Rattle.obs_exchange.specs.inner.Searching.{AreMarked, IsDone, IsEnd, IsResting, RunsOn};
+ghost use Rattle.obs_exchange.specs.inner.Setting.{IsSourceIn, end_of, first_of};
+ghost use Rattle.obs_exchange.specs.inner.Trail.{AreLedBut};
 
 use crate::noted::Noted;
 use crate::progress::Progress;

@@ -1,11 +1,11 @@
 // A search where one meter touches something else.
 ghost use Rattle.std.specs.Prelude.{◌≡◌, ◌+◌, ◌<◌, None, length, slice_set};
-ghost use Rattle.obs_meter.specs.Sizes.{HasRoomFor};
-ghost use Rattle.obs_meter.specs.Touches.{AreInRange, IsInRange};
-ghost use Rattle.obs_assign.specs.Assignment.{HasRoomOf, IsWhole, StandsOver, branch_at};
+ghost use Rattle.obs_meter.specs.inner.Sizes.{HasRoomFor};
+ghost use Rattle.obs_meter.specs.inner.Touches.{AreInRange, IsInRange};
+ghost use Rattle.obs_assign.specs.inner.Assignment.{HasRoomOf, IsWhole, StandsOver, branch_at};
 ghost use Rattle.obs_exchange.specs.declared.Found.{Found};
-ghost use Rattle.obs_exchange.specs.Found.{AreListed, CanBegin, IsFound};
-ghost use Rattle.obs_exchange.specs.Noting.{AreNoted};
+ghost use Rattle.obs_exchange.specs.inner.Found.{AreListed, CanBegin, IsFound};
+ghost use Rattle.obs_exchange.specs.inner.Noting.{AreNoted};
 
 use crate::{Found, Sources, Work};
 use obs_assign::{Assignment, Steps};

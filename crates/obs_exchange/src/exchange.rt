@@ -1,10 +1,10 @@
 // The search for one pair more.
 ghost use Rattle.std.specs.Prelude.{◌≡◌, ◌+◌};
-ghost use Rattle.obs_meter.specs.Sizes.{HasRoomFor};
-ghost use Rattle.obs_meter.specs.Touches.{AreInRange};
-ghost use Rattle.obs_assign.specs.Assignment.{HasRoomOf, IsWhole, StandsOver};
+ghost use Rattle.obs_meter.specs.inner.Sizes.{HasRoomFor};
+ghost use Rattle.obs_meter.specs.inner.Touches.{AreInRange};
+ghost use Rattle.obs_assign.specs.inner.Assignment.{HasRoomOf, IsWhole, StandsOver};
 ghost use Rattle.obs_exchange.specs.declared.Found.{Found};
-ghost use Rattle.obs_exchange.specs.Found.{AreListed, CanBegin, IsFound};
+ghost use Rattle.obs_exchange.specs.inner.Found.{AreListed, CanBegin, IsFound};
 
 use crate::{Found, Sources, Work};
 use obs_assign::{Assignment, Steps};

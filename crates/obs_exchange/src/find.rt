@@ -1,11 +1,11 @@
 // The path of moves by which the assignment grows.
 ghost use Rattle.std.specs.Prelude.{◌≡◌, ◌+◌, ◌<◌, ◌≤◌, ℕ, false, IfSome, MatchResult, length, drop};
-ghost use Rattle.obs_assign.specs.Assignment.{HasRoomOf, IsWhole, StandsOver, has_flag};
+ghost use Rattle.obs_assign.specs.inner.Assignment.{HasRoomOf, IsWhole, StandsOver, has_flag};
 ghost use Rattle.obs_exchange.specs.declared.Sources.{Sources};
-ghost use Rattle.obs_exchange.specs.Found.{HasGrown};
-ghost use Rattle.obs_exchange.specs.Noting.{AreNotedIn};
-ghost use Rattle.obs_exchange.specs.Searching.{BeginsAtSource, CanMove, CanSearch, HasPath, HasReached, HasRoomIn, IsAsLarge, IsEnd, IsFreeFor, IsReady, IsResting};
-ghost use Rattle.obs_exchange.specs.Setting.{IsSound, IsSourceIn, Setting, first_of};
+ghost use Rattle.obs_exchange.specs.inner.Found.{HasGrown};
+ghost use Rattle.obs_exchange.specs.inner.Noting.{AreNotedIn};
+ghost use Rattle.obs_exchange.specs.inner.Searching.{BeginsAtSource, CanMove, CanSearch, HasPath, HasReached, HasRoomIn, IsAsLarge, IsEnd, IsFreeFor, IsReady, IsResting};
+ghost use Rattle.obs_exchange.specs.inner.Setting.{IsSound, IsSourceIn, Setting, first_of};
 
 use crate::begin::{spread_all, spread_open};
 use crate::free::untried_branch;

@@ -1,7 +1,7 @@
 // Flags that are taken back by a list of those that were set.
 ghost use Rattle.std.specs.Prelude.{◌≡◌, ◌<◌, ◌≤◌, IfOk, true, false, length, replicate, slice_set, take};
-ghost use Rattle.obs_assign.specs.Assignment.{has_flag};
-ghost use Rattle.obs_exchange.specs.Blank.{AreListedFrom};
+ghost use Rattle.obs_assign.specs.inner.Assignment.{has_flag};
+ghost use Rattle.obs_exchange.specs.inner.Blank.{AreListedFrom};
 
 use crate::memory::NoMemory;
 use std::alloc::Global;
@@ -23,7 +23,7 @@ pub struct Flags {
 
 impl Model for Flags {
     ghost use Rattle.std.specs.Prelude.{◌≡◌, ◌≤◌, Bool, false, List, length};
-    ghost use Rattle.obs_exchange.specs.Blank.{AreClear, AreListedFrom};
+    ghost use Rattle.obs_exchange.specs.inner.Blank.{AreClear, AreListedFrom};
 
     ghost Value = { List Bool };
 

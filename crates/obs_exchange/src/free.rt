@@ -1,8 +1,8 @@
 // The free branches that a meter touches.
 ghost use Rattle.std.specs.Prelude.{◌≡◌, ◌<◌, ◌≤◌, ℕ, false, IfSome, IsSome, None, length, slice_index, slice_index_or};
 ghost use Rattle.obs_matroid.specs.Lists.{In};
-ghost use Rattle.obs_exchange.specs.Searching.{IsFreeFor};
-ghost use Rattle.obs_exchange.specs.Setting.{is_joined_in};
+ghost use Rattle.obs_exchange.specs.inner.Searching.{IsFreeFor};
+ghost use Rattle.obs_exchange.specs.inner.Setting.{is_joined_in};
 
 use crate::setting::Setting;
 use crate::stars::Stars;

@@ -3,19 +3,23 @@ ghost use Rattle.std.specs.Prelude.{◌≡◌, ◌↔◌, ◌≤◌, ℕ, Bool, 
 ghost use Rattle.obs_graph.specs.declared.Ends.{Ends};
 ghost use Rattle.obs_graph.specs.Positions.{AreBranches};
 ghost use Rattle.obs_graph.specs.Graph.{Graph};
-ghost use Rattle.obs_matroid.specs.Assignments.{Pair, part};
-ghost use Rattle.obs_matroid.specs.Closed.{Extends};
-ghost use Rattle.obs_matroid.specs.Components.{is_of};
+ghost use Rattle.obs_matroid.specs.Assignments.{Pair};
+ghost use Rattle.obs_matroid.specs.inner.Assignments.{part};
+ghost use Rattle.obs_matroid.specs.inner.Closed.{Extends};
+ghost use Rattle.obs_matroid.specs.inner.Components.{is_of};
 ghost use Rattle.obs_matroid.specs.Lists.{In, IsDistinct};
 ghost use Rattle.obs_meter.specs.declared.Touch.{Touch};
-ghost use Rattle.obs_meter.specs.Assignments.{IsAssignmentAt, IsRhoAt, bound_at};
+ghost use Rattle.obs_meter.specs.Assignments.{IsAssignmentAt, IsRhoAt};
+ghost use Rattle.obs_meter.specs.inner.Assignments.{bound_at};
 ghost use Rattle.obs_meter.specs.Touches.{every_item, is_live, live_items};
-ghost use Rattle.obs_assign.specs.Assignment.{Assignment, IsWhole, StandsOver, is_frozen, pairs};
+ghost use Rattle.obs_assign.specs.Assignment.{Assignment};
+ghost use Rattle.obs_assign.specs.inner.Assignment.{IsWhole, StandsOver, is_frozen, pairs};
 ghost use Rattle.obs_exchange.specs.declared.Found.{Found};
 ghost use Rattle.obs_exchange.specs.declared.Sources.{Sources};
 ghost use Rattle.obs_exchange.specs.Critical.{IsCriticalAt, critical_at};
-ghost use Rattle.obs_exchange.specs.Found.{AddsSource, HasGrown, IsFound};
-ghost use Rattle.obs_exchange.specs.Laws.{HasClosedSet, HoldsNonCritical, IsThawed, JoinsWithinKinds, TouchesOneKind, noncritical_in};
+ghost use Rattle.obs_exchange.specs.inner.Found.{AddsSource, HasGrown, IsFound};
+ghost use Rattle.obs_exchange.specs.Laws.{noncritical_in};
+ghost use Rattle.obs_exchange.specs.inner.Laws.{HasClosedSet, HoldsNonCritical, IsThawed, JoinsWithinKinds, TouchesOneKind};
 
 /// The computed critical meters are those without which the greatest length over the live meters falls.
 pub fn critical()

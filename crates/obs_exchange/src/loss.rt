@@ -1,8 +1,8 @@
 // Meters that are lost for a while.
 ghost use Rattle.std.specs.Prelude.{◌≡◌, ◌+◌, ◌<◌, ◌≤◌, ◌==◌, ◌&&◌, if◌then◌else◌, ℕ, Bool, not, None, length, slice_set, All};
 ghost use Rattle.obs_meter.specs.Lost.{is_listed, losing};
-ghost use Rattle.obs_assign.specs.Assignment.{HasRoomOf, IsWhole, StandsOver, branch_at, pairs};
-ghost use Rattle.obs_exchange.specs.Laws.{IsThawed};
+ghost use Rattle.obs_assign.specs.inner.Assignment.{HasRoomOf, IsWhole, StandsOver, branch_at, pairs};
+ghost use Rattle.obs_exchange.specs.inner.Laws.{IsThawed};
 
 use obs_assign::Assignment;
 use obs_graph::Graph;

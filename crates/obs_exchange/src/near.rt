@@ -1,6 +1,6 @@
 // Sources near a branch: a hint, on which nothing rests.
 ghost use Rattle.std.specs.Prelude.{◌<◌, length};
-ghost use Rattle.obs_meter.specs.Touches.{AreInRange};
+ghost use Rattle.obs_meter.specs.inner.Touches.{AreInRange};
 
 use crate::memory::NoMemory;
 use obs_graph::Graph;

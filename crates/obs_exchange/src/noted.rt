@@ -1,10 +1,10 @@
 // The meters that may be sources, where they are noted: a pass over all meters leaves out the others.
 ghost use Rattle.std.specs.Prelude.{◌≡◌, ◌+◌, ◌*◌, ◌/◌, ◌<◌, ◌≤◌, ℕ, true, false, IfOk, length, replicate, slice_set};
-ghost use Rattle.obs_meter.specs.Touches.{AreInRange};
-ghost use Rattle.obs_assign.specs.Assignment.{StandsOver, has_flag};
+ghost use Rattle.obs_meter.specs.inner.Touches.{AreInRange};
+ghost use Rattle.obs_assign.specs.inner.Assignment.{StandsOver, has_flag};
 ghost use Rattle.obs_exchange.specs.declared.Sources.TheVariants.{All};
-ghost use Rattle.obs_exchange.specs.Noting.{AreBlocks, AreNoted, HasFlags, Noted, is_noted};
-ghost use Rattle.obs_exchange.specs.Setting.{end_of, first_of};
+ghost use Rattle.obs_exchange.specs.inner.Noting.{AreBlocks, AreNoted, HasFlags, Noted, is_noted};
+ghost use Rattle.obs_exchange.specs.inner.Setting.{end_of, first_of};
 
 use crate::Sources;
 use crate::memory::NoMemory;
@@ -27,7 +27,7 @@ pub(crate) struct Noted {
 }
 
 impl Model for Noted {
-    ghost use Rattle.obs_exchange.specs.Noting.{AreBlocks, Noted};
+    ghost use Rattle.obs_exchange.specs.inner.Noting.{AreBlocks, Noted};
 
     ghost Value = { Noted };
 

@@ -1,13 +1,13 @@
 // Searches from one meter after another, in an order that is handed in.
 ghost use Rattle.std.specs.Prelude.{◌≡◌, ◌+◌, ◌<◌, ◌≤◌, if◌then◌else◌, ℕ, drop, length, slice_index};
 ghost use Rattle.obs_meter.specs.Lost.{is_listed};
-ghost use Rattle.obs_meter.specs.Sizes.{HasRoomFor};
-ghost use Rattle.obs_meter.specs.Touches.{AreInRange};
+ghost use Rattle.obs_meter.specs.inner.Sizes.{HasRoomFor};
+ghost use Rattle.obs_meter.specs.inner.Touches.{AreInRange};
 ghost use Rattle.obs_exchange.specs.declared.Sources.{Sources};
-ghost use Rattle.obs_exchange.specs.Longest.{IsLongest};
-ghost use Rattle.obs_exchange.specs.Ordered.{AreReachedInOrder, IsOrder, IsPlacing};
-ghost use Rattle.obs_exchange.specs.Searching.{HasRoomIn, IsAsLarge, RunsOn};
-ghost use Rattle.obs_exchange.specs.Setting.{IsSound};
+ghost use Rattle.obs_exchange.specs.inner.Longest.{IsLongest};
+ghost use Rattle.obs_exchange.specs.inner.Ordered.{AreReachedInOrder, IsOrder, IsPlacing};
+ghost use Rattle.obs_exchange.specs.inner.Searching.{HasRoomIn, IsAsLarge, RunsOn};
+ghost use Rattle.obs_exchange.specs.inner.Setting.{IsSound};
 
 use crate::Work;
 use crate::begin::spread_source;

@@ -1,6 +1,6 @@
 // Where the next search begins to try sources, for a free branch and for a path.
 ghost use Rattle.std.specs.Prelude.{◌≤◌};
-ghost use Rattle.obs_exchange.specs.Setting.{first_of};
+ghost use Rattle.obs_exchange.specs.inner.Setting.{first_of};
 
 use crate::Sources;
 use obs_assign::{Assignment, Move};

@@ -1,10 +1,10 @@
 // Meters that the visited one leads to.
 ghost use Rattle.std.specs.Prelude.{◌≡◌, ◌<◌, ℕ, true, false, Some, length};
 ghost use Rattle.obs_matroid.specs.Lists.{In};
-ghost use Rattle.obs_assign.specs.Assignment.{branch_at, has_flag, is_frozen};
-ghost use Rattle.obs_exchange.specs.Searching.{IsNeededOf, IsVisiting};
-ghost use Rattle.obs_exchange.specs.Setting.{touched_in};
-ghost use Rattle.obs_exchange.specs.Trail.{Stays};
+ghost use Rattle.obs_assign.specs.inner.Assignment.{branch_at, has_flag, is_frozen};
+ghost use Rattle.obs_exchange.specs.inner.Searching.{IsNeededOf, IsVisiting};
+ghost use Rattle.obs_exchange.specs.inner.Setting.{touched_in};
+ghost use Rattle.obs_exchange.specs.inner.Trail.{Stays};
 
 use crate::setting::Setting;
 use crate::trail::Trail;

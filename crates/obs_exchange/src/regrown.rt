@@ -1,13 +1,13 @@
 // Pairs of which there are as many as there can be.
 ghost use Rattle.std.specs.Prelude.{◌≡◌, ◌+◌, ◌-◌, ◌≤◌, true, length};
-ghost use Rattle.obs_meter.specs.Sizes.{HasRoomFor};
-ghost use Rattle.obs_meter.specs.Touches.{AreInRange};
-ghost use Rattle.obs_assign.specs.Assignment.{Fits, HasRoomOf, StandsOver, pairs};
+ghost use Rattle.obs_meter.specs.inner.Sizes.{HasRoomFor};
+ghost use Rattle.obs_meter.specs.inner.Touches.{AreInRange};
+ghost use Rattle.obs_assign.specs.inner.Assignment.{Fits, HasRoomOf, StandsOver, pairs};
 ghost use Rattle.obs_exchange.specs.declared.Sources.TheVariants.{All};
-ghost use Rattle.obs_exchange.specs.Found.{HasClosed};
-ghost use Rattle.obs_exchange.specs.Laws.{IsThawed};
-ghost use Rattle.obs_exchange.specs.Lengthened.{HasLengthened};
-ghost use Rattle.obs_exchange.specs.Longest.{IsLongest, IsMost};
+ghost use Rattle.obs_exchange.specs.inner.Found.{HasClosed};
+ghost use Rattle.obs_exchange.specs.inner.Laws.{IsThawed};
+ghost use Rattle.obs_exchange.specs.inner.Lengthened.{HasLengthened};
+ghost use Rattle.obs_exchange.specs.inner.Longest.{IsLongest, IsMost};
 
 use crate::{Found, Lengthened, Sources, Work, lengthen, search};
 use obs_assign::{Assignment, Steps};

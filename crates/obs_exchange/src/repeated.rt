@@ -1,12 +1,12 @@
 //! Searches, one after the other, until there are pairs enough or a closed set.
 ghost use Rattle.std.specs.Prelude.{◌≡◌, ◌+◌, ◌-◌, ◌<◌, ◌≤◌, true, length, MatchBool};
-ghost use Rattle.obs_meter.specs.Sizes.{HasRoomFor};
-ghost use Rattle.obs_meter.specs.Touches.{AreInRange};
-ghost use Rattle.obs_assign.specs.Assignment.{HasRoomOf, IsWhole, StandsOver, pairs};
+ghost use Rattle.obs_meter.specs.inner.Sizes.{HasRoomFor};
+ghost use Rattle.obs_meter.specs.inner.Touches.{AreInRange};
+ghost use Rattle.obs_assign.specs.inner.Assignment.{HasRoomOf, IsWhole, StandsOver, pairs};
 ghost use Rattle.obs_exchange.specs.declared.Sources.TheVariants.{All};
-ghost use Rattle.obs_exchange.specs.Found.{CanRun, HasClosed, IsFound};
-ghost use Rattle.obs_exchange.specs.Lengthened.{HasLengthened};
-ghost use Rattle.obs_exchange.specs.Noting.{AreNoted};
+ghost use Rattle.obs_exchange.specs.inner.Found.{CanRun, HasClosed, IsFound};
+ghost use Rattle.obs_exchange.specs.inner.Lengthened.{HasLengthened};
+ghost use Rattle.obs_exchange.specs.inner.Noting.{AreNoted};
 
 use crate::{Found, Lengthened, Sources, Work};
 use obs_assign::{Assignment, Steps};

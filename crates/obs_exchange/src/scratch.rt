@@ -1,11 +1,11 @@
 // What a search writes on.
 ghost use Rattle.std.specs.Prelude.{◌≡◌, ◌≤◌, IfOk, MatchResult, length, drop, take};
 ghost use Rattle.obs_exchange.specs.declared.Sources.TheVariants.{All};
-ghost use Rattle.obs_exchange.specs.Longest.{IsLongest};
-ghost use Rattle.obs_exchange.specs.Ordered.{AreReachedInOrder, IsOrder};
-ghost use Rattle.obs_exchange.specs.Searching.{CanSearch, HasPath, HasReached};
-ghost use Rattle.obs_exchange.specs.Setting.{IsSound};
-ghost use Rattle.obs_exchange.specs.Trail.{HasRoomOnly};
+ghost use Rattle.obs_exchange.specs.inner.Longest.{IsLongest};
+ghost use Rattle.obs_exchange.specs.inner.Ordered.{AreReachedInOrder, IsOrder};
+ghost use Rattle.obs_exchange.specs.inner.Searching.{CanSearch, HasPath, HasReached};
+ghost use Rattle.obs_exchange.specs.inner.Setting.{IsSound};
+ghost use Rattle.obs_exchange.specs.inner.Trail.{HasRoomOnly};
 
 use crate::find::find;
 use crate::memory::NoMemory;
@@ -31,7 +31,7 @@ pub(crate) struct Scratch {
 
 impl Model for Scratch {
     ghost use Rattle.std.specs.Prelude.{◌≡◌, length};
-    ghost use Rattle.obs_exchange.specs.Trail.{Scratch};
+    ghost use Rattle.obs_exchange.specs.inner.Trail.{Scratch};
 
     ghost Value = { Scratch };
 

@@ -2,9 +2,9 @@
 ghost use Rattle.std.specs.Prelude.{◌≡◌, ◌↔◌, ◌≢◌, ◌<◌, ◌≤◌, ℕ, not, IfNone, IfSome, IsSome, IsTrue, None, Some, length, slice_index, slice_index_or, take};
 ghost use Rattle.obs_graph.specs.Positions.{branches_at};
 ghost use Rattle.obs_meter.specs.declared.Touch.{Touch};
-ghost use Rattle.obs_meter.specs.Touches.{AreInRange, hub_of};
-ghost use Rattle.obs_assign.specs.Assignment.{StandsOver, branch_at, is_frozen};
-ghost use Rattle.obs_exchange.specs.Setting.{IsOver, IsSourceIn, end_of, first_of, is_joined_in, shut_by, touched_in};
+ghost use Rattle.obs_meter.specs.inner.Touches.{AreInRange, hub_of};
+ghost use Rattle.obs_assign.specs.inner.Assignment.{StandsOver, branch_at, is_frozen};
+ghost use Rattle.obs_exchange.specs.inner.Setting.{IsOver, IsSourceIn, end_of, first_of, is_joined_in, shut_by, touched_in};
 
 use crate::Sources;
 use obs_assign::Assignment;
@@ -31,7 +31,7 @@ pub struct Setting<'a> {
 }
 
 impl<'a> Model for Setting<'a> {
-    ghost use Rattle.obs_exchange.specs.Setting.{IsSound, Setting, shut_by};
+    ghost use Rattle.obs_exchange.specs.inner.Setting.{IsSound, Setting, shut_by};
 
     ghost Value = { Setting };
 

@@ -20,7 +20,7 @@ pub struct Stars {
 
 impl Model for Stars {
     ghost use Rattle.std.specs.Prelude.{◌≡◌, ℕ, List, length};
-    ghost use Rattle.obs_exchange.specs.Stars.{fronts_of};
+    ghost use Rattle.obs_exchange.specs.inner.Stars.{fronts_of};
 
     ghost Value = { List ℕ };
 

@@ -1,8 +1,8 @@
 // Classes of vertices that met branches join. What was met is never walked again: each class has one top, and the tops
 // lead there by ever fewer steps.
 ghost use Rattle.std.specs.Prelude.{◌≡◌, ◌≢◌, ◌<◌, ◌≤◌, ◌^◌, IfOk, length, slice_index, slice_set};
-ghost use Rattle.obs_exchange.specs.Blank.{AreLedFrom, AreNumbers};
-ghost use Rattle.obs_exchange.specs.Classes.{AreTops, Rises, SameMet};
+ghost use Rattle.obs_exchange.specs.inner.Blank.{AreLedFrom, AreNumbers};
+ghost use Rattle.obs_exchange.specs.inner.Classes.{AreTops, Rises, SameMet};
 
 use crate::memory::NoMemory;
 use crate::setting::Setting;
@@ -26,7 +26,7 @@ pub struct Tops {
 
 impl Model for Tops {
     ghost use Rattle.std.specs.Prelude.{◌≡◌, ◌≤◌, ℕ, false, List, length};
-    ghost use Rattle.obs_exchange.specs.Blank.{AreLedFrom, AreNumbers};
+    ghost use Rattle.obs_exchange.specs.inner.Blank.{AreLedFrom, AreNumbers};
 
     ghost Value = { List ℕ };
 

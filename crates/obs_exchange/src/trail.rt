@@ -1,8 +1,8 @@
 // What a search has reached and walked.
 ghost use Rattle.std.specs.Prelude.{◌≡◌, ◌↔◌, ◌+◌, ◌<◌, ◌≤◌, IfOk, IsTrue, true, length, slice_index, slice_set, take};
-ghost use Rattle.obs_assign.specs.Assignment.{has_flag};
-ghost use Rattle.obs_exchange.specs.Searching.{parent_of};
-ghost use Rattle.obs_exchange.specs.Trail.{AreFull, cleared, new_trail, pushed};
+ghost use Rattle.obs_assign.specs.inner.Assignment.{has_flag};
+ghost use Rattle.obs_exchange.specs.inner.Searching.{parent_of};
+ghost use Rattle.obs_exchange.specs.inner.Trail.{AreFull, cleared, new_trail, pushed};
 
 use crate::flags::Flags;
 use crate::memory::NoMemory;
@@ -27,7 +27,7 @@ pub struct Trail {
 
 impl Model for Trail {
     ghost use Rattle.std.specs.Prelude.{length};
-    ghost use Rattle.obs_exchange.specs.Trail.{AreFull, Trail};
+    ghost use Rattle.obs_exchange.specs.inner.Trail.{AreFull, Trail};
 
     ghost Value = { Trail };
 

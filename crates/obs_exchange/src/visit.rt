@@ -1,9 +1,9 @@
 // The meters of the queue, one after the other, up to the first free branch.
 ghost use Rattle.std.specs.Prelude.{◌≡◌, ◌<◌, ◌≤◌, Bool, List, IsTrue, MatchOption, length};
-ghost use Rattle.obs_exchange.specs.Classes.{AreClasses};
-ghost use Rattle.obs_exchange.specs.Searching.{AreStarred, AreWalkedOf, IsDone, IsEnd, IsFreeFor, IsRunning, IsVisiting, RunsOn};
-ghost use Rattle.obs_exchange.specs.Setting.{touched_in};
-ghost use Rattle.obs_exchange.specs.Trail.{AreLed, Stays};
+ghost use Rattle.obs_exchange.specs.inner.Classes.{AreClasses};
+ghost use Rattle.obs_exchange.specs.inner.Searching.{AreStarred, AreWalkedOf, IsDone, IsEnd, IsFreeFor, IsRunning, IsVisiting, RunsOn};
+ghost use Rattle.obs_exchange.specs.inner.Setting.{touched_in};
+ghost use Rattle.obs_exchange.specs.inner.Trail.{AreLed, Stays};
 
 use crate::free::{count, free_branch};
 use crate::progress::Progress;

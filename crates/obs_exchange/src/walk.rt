@@ -2,11 +2,11 @@
 ghost use Rattle.std.specs.Prelude.{◌≡◌, ◌<◌, ℕ, true, false, IsSome, MatchBool, None, Some, slice_index, slice_index_or};
 ghost use Rattle.obs_graph.specs.declared.search.Up.{Up};
 ghost use Rattle.obs_matroid.specs.Lists.{In};
-ghost use Rattle.obs_assign.specs.Assignment.{branch_at, has_flag};
-ghost use Rattle.obs_exchange.specs.Classes.{AreClasses, OneMoreMet, Rises};
-ghost use Rattle.obs_exchange.specs.Searching.{IsNeededOf, IsVisiting, IsWalked};
-ghost use Rattle.obs_exchange.specs.Setting.{is_joined_in, touched_in};
-ghost use Rattle.obs_exchange.specs.Trail.{Stays};
+ghost use Rattle.obs_assign.specs.inner.Assignment.{branch_at, has_flag};
+ghost use Rattle.obs_exchange.specs.inner.Classes.{AreClasses, OneMoreMet, Rises};
+ghost use Rattle.obs_exchange.specs.inner.Searching.{IsNeededOf, IsVisiting, IsWalked};
+ghost use Rattle.obs_exchange.specs.inner.Setting.{is_joined_in, touched_in};
+ghost use Rattle.obs_exchange.specs.inner.Trail.{Stays};
 
 use crate::queue::reach_owner;
 use crate::setting::Setting;

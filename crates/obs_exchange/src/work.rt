@@ -1,13 +1,13 @@
 // The arrays of a search.
 ghost use Rattle.std.specs.Prelude.{◌≡◌, ◌+◌, ◌<◌, ◌≤◌, ◌&&◌, ℕ, true, false, [], length, replicate, slice_set, IfOk};
-ghost use Rattle.obs_meter.specs.Sizes.{HasRoomFor};
-ghost use Rattle.obs_meter.specs.Touches.{AreInRange};
-ghost use Rattle.obs_assign.specs.Assignment.{StandsOver, has_flag};
+ghost use Rattle.obs_meter.specs.inner.Sizes.{HasRoomFor};
+ghost use Rattle.obs_meter.specs.inner.Touches.{AreInRange};
+ghost use Rattle.obs_assign.specs.inner.Assignment.{StandsOver, has_flag};
 ghost use Rattle.obs_exchange.specs.declared.Sources.TheVariants.{All};
-ghost use Rattle.obs_exchange.specs.Found.{CanRun, HasRun, searched};
-ghost use Rattle.obs_exchange.specs.Longest.{IsLongest};
-ghost use Rattle.obs_exchange.specs.Noting.{AreNoted};
-ghost use Rattle.obs_exchange.specs.Ordered.{AreReachedInOrder, IsOrder};
+ghost use Rattle.obs_exchange.specs.inner.Found.{CanRun, HasRun, searched};
+ghost use Rattle.obs_exchange.specs.inner.Longest.{IsLongest};
+ghost use Rattle.obs_exchange.specs.inner.Noting.{AreNoted};
+ghost use Rattle.obs_exchange.specs.inner.Ordered.{AreReachedInOrder, IsOrder};
 
 use crate::back::{Back, Ground};
 use crate::find::grow;
@@ -59,7 +59,7 @@ pub struct Work {
 
 impl Model for Work {
     ghost use Rattle.std.specs.Prelude.{◌≡◌, ◌≤◌, length, take};
-    ghost use Rattle.obs_exchange.specs.Found.{Work};
+    ghost use Rattle.obs_exchange.specs.inner.Found.{Work};
 
     ghost Value = { Work };
 

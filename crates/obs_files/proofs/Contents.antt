@@ -8,7 +8,8 @@ use Rattle.std.proofs.lemmas.List.{get_or-map, get_or-take, length-map, map-appe
 use Rattle.std.proofs.lemmas.List.FromFn.{get_or-map-range_with_len, length-range_with_len}
 use Rattle.obs_io.specs.Causes.{Rose}
 use Rattle.obs_matroid.specs.Lists.{In}
-use Rattle.obs_text.specs.Faults.{Fault, fault_of, too_long}
+use Rattle.obs_text.specs.Faults.{Fault, too_long}
+use Rattle.obs_text.specs.inner.Faults.{fault_of}
 use Rattle.obs_files.specs.declared.taken.Taken.{Taken}
 use Rattle.obs_files.specs.declared.taken.CaseError.{CaseError}
 use Rattle.obs_files.specs.declared.taken.CaseError.TheVariants.{Refused, Read, NoMemory}
@@ -22,7 +23,8 @@ use Rattle.obs_matpower.specs.declared.fault.MatEnd.{MatEnd}
 use Rattle.obs_matpower.specs.declared.fault.MatEnd.TheVariants.{Mat}
 use Rattle.obs_matpower.specs.declared.fault.MatFault.{MatFault}
 use Rattle.obs_matpower.specs.Faults.{mat_fault}
-use Rattle.obs_matpower.specs.Read.{EndsCase, mat_within}
+use Rattle.obs_matpower.specs.Read.{mat_within}
+use Rattle.obs_matpower.specs.inner.Read.{EndsCase}
 use Rattle.obs_matpower.specs.Read as mat
 use Rattle.obs_trial.specs.Trial.{trial_of}
 use Rattle.obs_files.specs.declared.words.CaseForm.{CaseForm}
@@ -33,7 +35,7 @@ use Rattle.obs_files.specs.declared.words.Form.TheVariants.{Topology, Case, Tria
 use Rattle.obs_files.specs.Files.{candidates_in, case_in, case_in_files, case_with_tables, first_too_long, is_too_long, parsed, switching_case, unless_fault}
 use Rattle.obs_files.specs.Limits.{Limits}
 use Rattle.obs_files.specs.Outside.{AreTold, ReadFailed}
-use Rattle.obs_files.specs.Taken.{AreContents, IsNext, IsOfFiles, IsTaken, IsCaseError, bytes_of}
+use Rattle.obs_files.specs.inner.Taken.{AreContents, IsNext, IsOfFiles, IsTaken, IsCaseError, bytes_of}
 use Rattle.obs_files.specs.Words.{candidates_at, case_parts, certificate_at, is_offered, item_if, parts_of, takes_certificate, words_of}
 use Rattle.obs_files.proofs.Taking.{Fits}
 

@@ -14,7 +14,7 @@ use Rattle.obs_files.specs.declared.words.CaseCommand.TheVariants.{Report, Place
 use Rattle.obs_files.specs.declared.words.Study.TheVariants.{Outages, Pairs, Stations}
 use Rattle.obs_files.specs.declared.words.Form.{Form}
 use Rattle.obs_files.specs.declared.words.Form.TheVariants.{Topology, Case, Trial}
-use Rattle.obs_files.specs.Laws.{IsFormOf, IsInUsage, TakesEachFile, taken_words}
+use Rattle.obs_files.specs.inner.Laws.{IsFormOf, IsInUsage, TakesEachFile, taken_words}
 use Rattle.obs_files.proofs.Filed.{parts_length}
 use Rattle.obs_files.specs.Words.{HasRows, behind_case, case_commands, case_form_of, case_parts, case_word, command_word, fits, form_of, form_with, has_with, is_word, item_if, one_if, parts_behind, trial_form, word_count}
 

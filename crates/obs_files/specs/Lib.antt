@@ -3,5 +3,5 @@ pub mod Files
 pub mod Laws
 pub mod Limits
 pub mod Outside
-pub mod Taken
 pub mod Words
+pub mod inner

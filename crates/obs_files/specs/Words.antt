@@ -1,5 +1,5 @@
 -- Which words have which form, and which of them name files.
-use Rattle.std.specs.Prelude.{ℕ, ◌≤◌, ◌+◌, ◌==◌, ◌&&◌, not, Bool, true, false, nat_lt, List, [], ◌∷◌, ◌++◌, length, codes, map, Option, None, Some, if◌then◌else◌, slice_index_or}
+use Rattle.std.specs.Prelude.{ℕ, ◌≤◌, ◌+◌, ◌==◌, ◌&&◌, Bool, true, false, nat_lt, List, [], ◌∷◌, ◌++◌, length, codes, map, Option, None, Some, if◌then◌else◌, slice_index_or}
 use Rattle.std.specs.List.{find, range_with_len}
 use Rattle.std.specs.Str.{bytes_eq}
 use Rattle.obs_text.specs.Numbers.{whole_of}
@@ -161,17 +161,6 @@ form_of words =
     else if (length words == 3) && is_word words 0 (codes "trial")
     then trial_form (whole_of (slice_index_or words 1 [])) (whole_of (slice_index_or words 2 []))
     else form_with words (case_form_of words)
-
--- what the usage line says of a form: its words, with FORM for those that name a case and one word for each other file. That a case
--- may stand with candidates behind the word `with` it doesn't say
-abbrev pub usage_of : Form → List ℕ
-usage_of Topology = codes "topology N S"
-usage_of (Case command from) =
-    command_word (Case command from)
-    ++ (codes " FORM"
-    ++ ((if is_offered (Case command from) && not (has_with (Case command from)) then codes " CAND" else [])
-    ++ (if takes_certificate (Case command from) then codes " CERT" else [])))
-usage_of (Trial rows seed) = codes "trial N SEED"
 
 -- the usage line
 abbrev pub usage_text : List ℕ

@@ -11,7 +11,7 @@ ghost use Rattle.obs_matpower.specs.Read.{mat_within};
 ghost use Rattle.obs_trial.specs.Trial.{trial_of};
 ghost use Rattle.obs_files.specs.Files.{candidates_in, case_in, case_of_tables, case_with_tables, certificate_in, parsed, switching_case};
 ghost use Rattle.obs_files.specs.Outside.{AreFiles, IsFileWord, ReadFailed};
-ghost use Rattle.obs_files.specs.Taken.{IsOfFiles, IsTaken, bytes_of};
+ghost use Rattle.obs_files.specs.inner.Taken.{IsOfFiles, IsTaken, bytes_of};
 ghost use Rattle.obs_files.specs.Words.{HasRows, case_parts, file_words, words_of};
 
 use crate::files::take_files;

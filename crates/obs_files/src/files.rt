@@ -3,7 +3,7 @@ ghost use Rattle.std.specs.Prelude.{◌≡◌, ◌≢◌, ◌+◌, ◌≤◌, �
 ghost use Rattle.obs_io.specs.Causes.{Rose};
 ghost use Rattle.obs_matroid.specs.Lists.{In};
 ghost use Rattle.obs_files.specs.Outside.{AreTold, ReadFailed};
-ghost use Rattle.obs_files.specs.Taken.{AreContents, IsFile, IsNext, bytes_of};
+ghost use Rattle.obs_files.specs.inner.Taken.{AreContents, IsFile, IsNext, bytes_of};
 ghost use Rattle.obs_files.specs.Words.{parts_of, words_of};
 
 use crate::limits::Limits;

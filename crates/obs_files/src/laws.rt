@@ -1,7 +1,8 @@
 // The laws of words, and of the cases that files are.
 ghost use Rattle.std.specs.Prelude.{◌≡◌, ◌↔◌, ℕ, List, Some};
 ghost use Rattle.obs_files.specs.declared.words.Form.{Form};
-ghost use Rattle.obs_files.specs.Laws.{CasesAreValid, IsFormOf, IsInUsage, TakesEachFile};
+ghost use Rattle.obs_files.specs.Laws.{CasesAreValid};
+ghost use Rattle.obs_files.specs.inner.Laws.{IsFormOf, IsInUsage, TakesEachFile};
 ghost use Rattle.obs_files.specs.Words.{HasRows, form_of};
 
 /// Every case that files are is valid. The other laws ask this of a case.

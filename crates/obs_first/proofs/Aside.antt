@@ -13,17 +13,18 @@ use Rattle.obs_matroid.proofs.Slots.{slot_at}
 use Rattle.obs_meter.specs.declared.Touch.{Touch}
 use Rattle.obs_meter.specs.declared.Touch.TheVariants.{Nothing}
 use Rattle.obs_meter.specs.Touches.{touch_at}
-use Rattle.obs_assign.specs.Assignment.{Assignment, IsWhole, StandsOver, branch_at, is_frozen, pairs}
-use Rattle.obs_assign.specs.Pins.{IsPinnedAt}
-use Rattle.obs_assign.specs.Spare.{IsSpare}
+use Rattle.obs_assign.specs.Assignment.{Assignment}
+use Rattle.obs_assign.specs.inner.Assignment.{IsWhole, StandsOver, branch_at, is_frozen, pairs}
+use Rattle.obs_assign.specs.inner.Pins.{IsPinnedAt}
+use Rattle.obs_assign.specs.inner.Spare.{IsSpare}
 use Rattle.obs_assign.proofs.Pinned.{length-left, length-pinned_bare, spare_owner}
 use Rattle.obs_assign.proofs.Pinning.{nothing}
 use Rattle.obs_assign.proofs.Slotted.{item_slot}
 use Rattle.obs_exchange.specs.declared.Sources.TheVariants.{All}
-use Rattle.obs_exchange.specs.Closed.{IsLeastClosedAt}
+use Rattle.obs_exchange.specs.inner.Closed.{IsLeastClosedAt}
 use Rattle.obs_exchange.proofs.Changing.{IsAssignmentAt-without, StandsOver-changed, longest_by}
 use Rattle.obs_exchange.proofs.Lawful.{frozen_longest}
-use Rattle.obs_first.specs.Deciding.{AreEnoughFor, HasRefused, IsAside, IsUnderWay, IsOutOfReach, KeepsFrozen}
+use Rattle.obs_first.specs.inner.Deciding.{AreEnoughFor, HasRefused, IsAside, IsUnderWay, IsOutOfReach, KeepsFrozen}
 use Rattle.obs_first.proofs.Frozen.{HasFrozenOf-kept, HasFrozenOf-pairs}
 use Rattle.obs_first.proofs.Deciding.{AreRefused}
 

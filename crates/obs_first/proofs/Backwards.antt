@@ -6,22 +6,23 @@ use Rattle.obs_graph.specs.Positions.{AreBranches}
 use Rattle.obs_matroid.specs.Lists.{In}
 use Rattle.obs_matroid.specs.Assignments.{Pair, items}
 use Rattle.obs_matroid.proofs.Closed.{least_not_frozen}
-use Rattle.obs_matroid.specs.Closed.{every}
+use Rattle.obs_matroid.specs.inner.Closed.{every}
 use Rattle.obs_matroid.proofs.Lists.{cases_In, clash}
 use Rattle.obs_meter.specs.declared.Touch.{Touch}
 use Rattle.obs_meter.specs.Spanned.{graph_matroid}
 use Rattle.obs_meter.specs.Touches.{is_live, live_items, touch_at}
 use Rattle.obs_meter.proofs.Assigned.{from_matroid, live-to_every, live_items-distinct}
 use Rattle.obs_meter.proofs.Instance.{IsMatroid-graph}
-use Rattle.obs_assign.specs.Assignment.{Assignment, IsWhole, StandsOver, has_flag, is_frozen, pairs}
+use Rattle.obs_assign.specs.Assignment.{Assignment}
+use Rattle.obs_assign.specs.inner.Assignment.{IsWhole, StandsOver, has_flag, is_frozen, pairs}
 use Rattle.obs_exchange.specs.declared.Sources.TheVariants.{All}
-use Rattle.obs_first.specs.Backwards.{HasNoWayTo}
-use Rattle.obs_exchange.specs.Closed.{IsLeastClosedAt}
-use Rattle.obs_exchange.specs.Longest.{IsMost}
+use Rattle.obs_first.specs.inner.Backwards.{HasNoWayTo}
+use Rattle.obs_exchange.specs.inner.Closed.{IsLeastClosedAt}
+use Rattle.obs_exchange.specs.inner.Longest.{IsMost}
 use Rattle.obs_exchange.proofs.AtGraph.{IsAssignment-live, IsLeastClosed-to_matroid}
 use Rattle.obs_exchange.proofs.Beside.{critical_beside, longer_or_closed}
 use Rattle.obs_first.proofs.Cutting.{kept_without, left_closed, left_holds, own_left}
-use Rattle.obs_first.specs.Deciding.{AreCriticalBeside, HasFrozenOf}
+use Rattle.obs_first.specs.inner.Deciding.{AreCriticalBeside, HasFrozenOf}
 use Rattle.obs_first.proofs.Frozen.{HasFrozenOf-pairs}
 
 module _ (g : Graph) (touches : List Touch) (a : Assignment) (loose : List Bool) (long : ℕ) (ok : AreBranches g.vertices g.ends) (whole : IsWhole a) (stands : StandsOver a g touches)

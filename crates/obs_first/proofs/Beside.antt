@@ -5,7 +5,8 @@ use Rattle.obs_graph.specs.declared.Ends.{Ends}
 use Rattle.obs_graph.specs.Graph.{Graph}
 use Rattle.obs_graph.specs.Positions.{AreBranches}
 use Rattle.obs_matroid.specs.Lists.{In}
-use Rattle.obs_matroid.specs.Assignments.{Pair, items, part}
+use Rattle.obs_matroid.specs.Assignments.{Pair, items}
+use Rattle.obs_matroid.specs.inner.Assignments.{part}
 use Rattle.obs_matroid.proofs.Comparing.{cases_Option}
 use Rattle.obs_matroid.proofs.Lists.{clash}
 use Rattle.obs_matroid.proofs.Pairs.{In-items_from, In-part, In-part_from, more_pairs}
@@ -18,21 +19,22 @@ use Rattle.obs_meter.specs.Touches.{every_item, is_live, live_items, touch_at}
 use Rattle.obs_meter.proofs.Instance.{IsMatroid-graph}
 use Rattle.obs_meter.proofs.Live.{live_low}
 use Rattle.obs_meter.proofs.Touched.{live-from_In}
-use Rattle.obs_assign.specs.Assignment.{Assignment, IsWhole, StandsOver, branch_at, has_flag, is_frozen, pairs}
+use Rattle.obs_assign.specs.Assignment.{Assignment}
+use Rattle.obs_assign.specs.inner.Assignment.{IsWhole, StandsOver, branch_at, has_flag, is_frozen, pairs}
 use Rattle.obs_assign.proofs.Keeping.{flags_clear}
 use Rattle.obs_assign.proofs.Pinning.{nothing}
 use Rattle.obs_assign.proofs.Slotted.{none_some}
 use Rattle.obs_exchange.specs.declared.Sources.{Sources}
 use Rattle.obs_exchange.specs.declared.Sources.TheVariants.{All, One}
-use Rattle.obs_exchange.specs.Closed.{HoldsSourcesAt, IsClosedAt, IsLeastClosedAt, IsSource}
-use Rattle.obs_exchange.specs.Found.{HasClosed, Work}
-use Rattle.obs_exchange.specs.Longest.{IsLongest}
-use Rattle.obs_exchange.specs.Noting.{AreNoted, Noted}
+use Rattle.obs_exchange.specs.inner.Closed.{HoldsSourcesAt, IsClosedAt, IsLeastClosedAt, IsSource}
+use Rattle.obs_exchange.specs.inner.Found.{HasClosed, Work}
+use Rattle.obs_exchange.specs.inner.Longest.{IsLongest}
+use Rattle.obs_exchange.specs.inner.Noting.{AreNoted, Noted}
 use Rattle.obs_exchange.proofs.AtGraph.{out-from_bare}
 use Rattle.obs_exchange.proofs.Beside.{critical_beside, longer_or_closed}
 use Rattle.obs_exchange.proofs.Changing.{IsAssignmentAt-changed, StandsOver-changed, live_other, not_live, set_back, touch_changed, touch_other}
 use Rattle.obs_exchange.proofs.Lengthening.{room_again}
-use Rattle.obs_first.specs.Deciding.{AreCriticalBeside, IsAside, IsPrepared, KeepsFrozen}
+use Rattle.obs_first.specs.inner.Deciding.{AreCriticalBeside, IsAside, IsPrepared, KeepsFrozen}
 use Rattle.obs_first.proofs.Changed.{dropped_frozen, dropped_keeps, dropped_noted, other_slot}
 use Rattle.obs_first.proofs.Frozen.{HasFrozenOf-back, HasFrozenOf-pairs, frozen_same}
 

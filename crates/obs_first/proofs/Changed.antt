@@ -12,15 +12,16 @@ use Rattle.obs_meter.specs.declared.Touch.{Touch}
 use Rattle.obs_meter.specs.declared.Touch.TheVariants.{Edge, Nothing}
 use Rattle.obs_meter.specs.Touches.{is_live, touch_at}
 use Rattle.obs_meter.proofs.Touched.{itself_from}
-use Rattle.obs_assign.specs.Assignment.{Assignment, StandsOver, branch_at, is_frozen}
+use Rattle.obs_assign.specs.Assignment.{Assignment}
+use Rattle.obs_assign.specs.inner.Assignment.{StandsOver, branch_at, is_frozen}
 use Rattle.obs_assign.proofs.Slotted.{none_some}
 use Rattle.obs_exchange.specs.declared.Sources.{Sources}
 use Rattle.obs_exchange.specs.declared.Sources.TheVariants.{All, One}
-use Rattle.obs_exchange.specs.Found.{HasGrown}
-use Rattle.obs_exchange.specs.Noting.{AreNoted, Noted}
+use Rattle.obs_exchange.specs.inner.Found.{HasGrown}
+use Rattle.obs_exchange.specs.inner.Noting.{AreNoted, Noted}
 use Rattle.obs_exchange.proofs.Changing.{StandsOver-changed, live_other, set_back, touch_changed, touch_other}
 use Rattle.obs_exchange.proofs.Noting.{AreNoted-less, AreNoted-more}
-use Rattle.obs_first.specs.Deciding.{KeepsFrozen}
+use Rattle.obs_first.specs.inner.Deciding.{KeepsFrozen}
 
 -- a thawed meter lost its pair
 module _ (a b : Assignment) (m : ℕ) (slots : b.slots ≡ set a.slots m None) (thawed : is_frozen a m ≡ false) where

@@ -4,15 +4,17 @@ use Rattle.std.proofs.Common.{◌≡◌, ℕ, ◌+◌, ◌<◌, ◌≤◌, Bool,
 use Rattle.std.proofs.lemmas.Bool.{cases_Bool, cases_eq}
 use Rattle.obs_graph.specs.Graph.{Graph}
 use Rattle.obs_matroid.specs.Lists.{In, IsDistinct}
-use Rattle.obs_matroid.specs.Assignments.{Pair, items, part}
+use Rattle.obs_matroid.specs.Assignments.{Pair, items}
+use Rattle.obs_matroid.specs.inner.Assignments.{part}
 use Rattle.obs_matroid.proofs.Lists.{clash, In_same, length-within}
 use Rattle.obs_matroid.proofs.Bounds.{length-items, length-parts}
 use Rattle.obs_matroid.proofs.Order.{length-same}
 use Rattle.obs_matroid.proofs.Pairs.{In-items, In-items_from, In-part, In-part_from, IsDistinct-part}
 use Rattle.obs_matroid.proofs.Slots.{IsDistinct-slots, pair_from_parts, slot_at, slot_from}
 use Rattle.obs_meter.specs.declared.Touch.{Touch}
-use Rattle.obs_assign.specs.Assignment.{Assignment, IsWhole, StandsOver, has_flag, is_frozen, pairs}
-use Rattle.obs_first.specs.Deciding.{IsDecided, KeepsFrozen, frozen_pairs}
+use Rattle.obs_assign.specs.Assignment.{Assignment}
+use Rattle.obs_assign.specs.inner.Assignment.{IsWhole, StandsOver, has_flag, is_frozen, pairs}
+use Rattle.obs_first.specs.inner.Deciding.{IsDecided, KeepsFrozen, frozen_pairs}
 use Rattle.obs_first.proofs.Frozen.{frozen_same}
 use Rattle.obs_first.proofs.Deciding.{Decided-none}
 

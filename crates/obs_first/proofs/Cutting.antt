@@ -5,10 +5,12 @@ use Rattle.obs_graph.specs.declared.Ends.{Ends}
 use Rattle.obs_graph.specs.Graph.{Graph}
 use Rattle.obs_graph.specs.Positions.{AreBranches}
 use Rattle.obs_matroid.specs.Lists.{In, IsDistinct, other_than, without}
-use Rattle.obs_matroid.specs.Matroid.{Matroid, IsMatroid}
-use Rattle.obs_matroid.specs.Assignments.{Pair, items, branches, part, others, IsAssignment}
-use Rattle.obs_matroid.specs.Closed.{Extends, HasFrozen, HoldsSources, IsClosed, IsLeastClosed, every}
-use Rattle.obs_matroid.specs.Graphic.{IsJoining}
+use Rattle.obs_matroid.specs.Matroid.{Matroid}
+use Rattle.obs_matroid.specs.inner.Matroid.{IsMatroid}
+use Rattle.obs_matroid.specs.Assignments.{Pair, items, branches, IsAssignment}
+use Rattle.obs_matroid.specs.inner.Assignments.{part, others}
+use Rattle.obs_matroid.specs.inner.Closed.{Extends, HasFrozen, HoldsSources, IsClosed, IsLeastClosed, every}
+use Rattle.obs_matroid.specs.inner.Graphic.{IsJoining}
 use Rattle.obs_matroid.proofs.Closed.{least_not_frozen}
 use Rattle.obs_matroid.proofs.Comparing.{cases_Option}
 use Rattle.obs_matroid.proofs.Exchange.{length-put_in}
@@ -23,12 +25,13 @@ use Rattle.obs_meter.specs.Touches.{is_live, live_items, touch_at}
 use Rattle.obs_meter.proofs.Instance.{IsJoining-graph, IsMatroid-graph}
 use Rattle.obs_meter.proofs.Live.{live_low}
 use Rattle.obs_meter.proofs.Touched.{live-from_In}
-use Rattle.obs_assign.specs.Assignment.{Assignment, IsWhole, StandsOver, branch_at, has_flag, is_frozen, pairs}
-use Rattle.obs_assign.specs.Pins.{joins}
+use Rattle.obs_assign.specs.Assignment.{Assignment}
+use Rattle.obs_assign.specs.inner.Assignment.{IsWhole, StandsOver, branch_at, has_flag, is_frozen, pairs}
+use Rattle.obs_assign.specs.inner.Pins.{joins}
 use Rattle.obs_assign.proofs.Slotted.{none_some, some_same}
 use Rattle.obs_exchange.specs.declared.Sources.TheVariants.{All}
-use Rattle.obs_first.specs.Backwards.{HasNoWayTo, IsCutOff, IsOnOneSide, StaysOff}
-use Rattle.obs_exchange.specs.Closed.{HoldsSourcesAt, IsClosedAt}
+use Rattle.obs_first.specs.inner.Backwards.{HasNoWayTo, IsCutOff, IsOnOneSide, StaysOff}
+use Rattle.obs_exchange.specs.inner.Closed.{HoldsSourcesAt, IsClosedAt}
 use Rattle.obs_exchange.proofs.AtGraph.{IsAssignment-live}
 
 -- what branches join that don't lead out of a set lies on one side of it

@@ -6,7 +6,7 @@ use Rattle.obs_graph.specs.Graph.{Graph}
 use Rattle.obs_matroid.specs.Lists.{In}
 use Rattle.obs_matroid.specs.Matroid.{Matroid}
 use Rattle.obs_matroid.specs.Assignments.{Pair, items, IsAssignment}
-use Rattle.obs_matroid.specs.Closed.{Extends}
+use Rattle.obs_matroid.specs.inner.Closed.{Extends}
 use Rattle.obs_matroid.specs.First.{branch_at, IsNotAfter}
 use Rattle.obs_matroid.proofs.Lists.{In_same}
 use Rattle.obs_matroid.proofs.Pairs.{In-items, In-items_from}
@@ -19,11 +19,12 @@ use Rattle.obs_meter.specs.Spanned.{graph_matroid}
 use Rattle.obs_meter.specs.Touches.{every_item, touch_at}
 use Rattle.obs_meter.proofs.Assigned.{from_matroid, to_matroid}
 use Rattle.obs_meter.proofs.Touched.{touch-rising}
-use Rattle.obs_assign.specs.Assignment.{Assignment, IsWhole, StandsOver, has_flag, is_frozen, pairs}
+use Rattle.obs_assign.specs.Assignment.{Assignment}
+use Rattle.obs_assign.specs.inner.Assignment.{IsWhole, StandsOver, has_flag, is_frozen, pairs}
 use Rattle.obs_assign.proofs.Slotted.{item_slot, slot_item}
 use Rattle.obs_assign.proofs.Standing.{IsAssignmentAt-standing}
-use Rattle.obs_exchange.specs.Found.{Work}
-use Rattle.obs_first.specs.Deciding.{GoesOn, HasFrozenOf, HasRefused, IsDecided, IsMoved, IsUnderWay, KeepsFrozen}
+use Rattle.obs_exchange.specs.inner.Found.{Work}
+use Rattle.obs_first.specs.inner.Deciding.{GoesOn, HasFrozenOf, HasRefused, IsDecided, IsMoved, IsUnderWay, KeepsFrozen}
 use Rattle.obs_first.proofs.Frozen.{Extends-kept, HasFrozenOf-kept, HasFrozenOf-pairs, frozen_same}
 use Rattle.obs_first.proofs.Fronts.{In-take_lower, In-take_more}
 use Rattle.obs_first.proofs.Going.{GoesOn-on}

@@ -3,12 +3,13 @@ use Rattle.std.proofs.Common.{◌≡◌, ℕ, Bool, true, Option, List, sym, ap,
 use Rattle.obs_graph.specs.declared.Ends.{Ends}
 use Rattle.obs_graph.specs.Graph.{Graph}
 use Rattle.obs_matroid.specs.Assignments.{Pair}
-use Rattle.obs_matroid.specs.Closed.{Extends}
+use Rattle.obs_matroid.specs.inner.Closed.{Extends}
 use Rattle.obs_matroid.proofs.Slots.{slot_at, slot_from}
 use Rattle.obs_meter.specs.declared.Touch.{Touch}
-use Rattle.obs_assign.specs.Assignment.{Assignment, IsWhole, StandsOver, has_flag, is_frozen, pairs}
+use Rattle.obs_assign.specs.Assignment.{Assignment}
+use Rattle.obs_assign.specs.inner.Assignment.{IsWhole, StandsOver, has_flag, is_frozen, pairs}
 use Rattle.obs_assign.proofs.Standing.{IsAssignmentAt-standing}
-use Rattle.obs_first.specs.Deciding.{HasFrozenOf, KeepsFrozen}
+use Rattle.obs_first.specs.inner.Deciding.{HasFrozenOf, KeepsFrozen}
 
 -- what is frozen in b is frozen in a
 pub frozen_same : (a b : Assignment) → b.frozen ≡ a.frozen → (x : ℕ) → is_frozen b x ≡ is_frozen a x

@@ -3,12 +3,13 @@ use Rattle.std.proofs.Common.{◌≡◌, ◌≢◌, ℕ, ◌<◌, ◌≤◌, ◌
 use Rattle.obs_graph.specs.Graph.{Graph}
 use Rattle.obs_meter.specs.declared.Touch.{Touch}
 use Rattle.obs_meter.specs.declared.Touch.TheVariants.{Nothing}
-use Rattle.obs_assign.specs.Assignment.{Assignment, HasRoomOf, IsWhole, StandsOver, branch_at, has_flag, is_frozen, pairs}
+use Rattle.obs_assign.specs.Assignment.{Assignment}
+use Rattle.obs_assign.specs.inner.Assignment.{HasRoomOf, IsWhole, StandsOver, branch_at, has_flag, is_frozen, pairs}
 use Rattle.obs_exchange.specs.declared.Sources.TheVariants.{All}
-use Rattle.obs_exchange.specs.Found.{HasClosed, Work}
-use Rattle.obs_exchange.specs.Noting.{AreNoted, Noted}
+use Rattle.obs_exchange.specs.inner.Found.{HasClosed, Work}
+use Rattle.obs_exchange.specs.inner.Noting.{AreNoted, Noted}
 use Rattle.obs_exchange.proofs.Lengthening.{rooms}
-use Rattle.obs_first.specs.Deciding.{GoesOn, IsMoved, IsPrepared, IsReady, KeepsFrozen, MayTake}
+use Rattle.obs_first.specs.inner.Deciding.{GoesOn, IsMoved, IsPrepared, IsReady, KeepsFrozen, MayTake}
 use Rattle.obs_first.proofs.Beside.{IsPrepared-dropped, IsPrepared-narrowed, IsPrepared-on}
 use Rattle.obs_first.proofs.Changed.{dropped_frozen, dropped_keeps}
 use Rattle.obs_first.proofs.Frozen.{KeepsFrozen-on}

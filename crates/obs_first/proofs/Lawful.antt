@@ -8,7 +8,8 @@ use Rattle.obs_graph.specs.Positions.{AreBranches}
 use Rattle.obs_graph.specs.Graph.{Graph}
 use Rattle.obs_matroid.specs.Lists.{In}
 use Rattle.obs_matroid.specs.Assignments.{Pair}
-use Rattle.obs_matroid.specs.First.{IsFirst, IsNotAfter, branch_at}
+use Rattle.obs_matroid.specs.First.{IsNotAfter, branch_at}
+use Rattle.obs_matroid.specs.inner.First.{IsFirst}
 use Rattle.obs_matroid.proofs.Lists.{clash}
 use Rattle.obs_matroid.proofs.Pairs.{In-items_from}
 use Rattle.obs_matroid.proofs.Comparing.{branch_at_out, first_unique}
@@ -21,10 +22,11 @@ use Rattle.obs_meter.specs.Touches.{every_item, is_live, live_items, touch_at}
 use Rattle.obs_meter.proofs.Assigned.{every-to_live, every_item-distinct, from_matroid, live-to_every, rho-live-to_every, to_matroid}
 use Rattle.obs_meter.proofs.Instance.{IsMatroid-graph}
 use Rattle.obs_meter.proofs.Touched.{live-from_In, touch-rising}
-use Rattle.obs_assign.specs.Assignment.{Assignment, IsWhole, StandsOver, is_frozen, pairs}
+use Rattle.obs_assign.specs.Assignment.{Assignment}
+use Rattle.obs_assign.specs.inner.Assignment.{IsWhole, StandsOver, is_frozen, pairs}
 use Rattle.obs_assign.proofs.Standing.{IsAssignmentAt-standing}
 use Rattle.obs_first.specs.First.{IsFirstAt, first_pairs}
-use Rattle.obs_first.specs.Deciding.{IsDecided}
+use Rattle.obs_first.specs.inner.Deciding.{IsDecided}
 use Rattle.obs_first.proofs.Listed.{IsRising-first_of, IsRising-slots, pairs_same}
 
 module _ (n : ℕ) (ends : List (Option Ends)) (touches : List Touch) (M : List ℕ) where

@@ -3,7 +3,7 @@ use Rattle.std.proofs.Common.{◌≡◌, ℕ, suc, ◌≤◌, not, Option, Some,
 use Rattle.obs_matroid.specs.Lists.{In, IsRising}
 use Rattle.obs_matroid.specs.Matroid.{Matroid}
 use Rattle.obs_matroid.specs.Assignments.{Pair, items}
-use Rattle.obs_matroid.specs.Slots.{pairs_from, pairs_of}
+use Rattle.obs_matroid.specs.inner.Slots.{pairs_from, pairs_of}
 use Rattle.obs_matroid.specs.Values.{first_of, first_with}
 use Rattle.obs_matroid.proofs.Computed.{pick_is}
 use Rattle.obs_matroid.proofs.Pairs.{In-items}

@@ -17,8 +17,9 @@ use Rattle.obs_matroid.proofs.Ranges.{below_from, below_in, range_append, range_
 use Rattle.obs_meter.specs.declared.Touch.{Touch}
 use Rattle.obs_meter.specs.Assignments.{IsAssignmentAt}
 use Rattle.obs_meter.specs.Touches.{every_item, touch_at, touched}
-use Rattle.obs_assign.specs.Assignment.{Assignment, pairs}
-use Rattle.obs_first.specs.Deciding.{HasFrozenOf, IsDecided, IsPassed}
+use Rattle.obs_assign.specs.Assignment.{Assignment}
+use Rattle.obs_assign.specs.inner.Assignment.{pairs}
+use Rattle.obs_first.specs.inner.Deciding.{HasFrozenOf, IsDecided, IsPassed}
 
 -- where A does not come after B by P and k, and B has at P what A has: B has nothing lower than A at k
 not_lower : (P : List ℕ) (k y : ℕ) (A B : List Pair) → IsNotAfter (P ++ k ∷ []) A B → ((x e : ℕ) → In x P → branch_at A x ≡ Some e → branch_at B x ≡ Some e)

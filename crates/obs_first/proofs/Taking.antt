@@ -5,7 +5,7 @@ use Rattle.std.proofs.lemmas.List.{get_or-set_same}
 use Rattle.obs_graph.specs.declared.Ends.{Ends}
 use Rattle.obs_graph.specs.Positions.{AreBranches}
 use Rattle.obs_graph.specs.Graph.{Graph}
-use Rattle.obs_matroid.specs.Assignments.{part}
+use Rattle.obs_matroid.specs.inner.Assignments.{part}
 use Rattle.obs_matroid.proofs.Lists.{clash}
 use Rattle.obs_matroid.proofs.Pairs.{In-branches, In-part}
 use Rattle.obs_matroid.proofs.Pin.{pin_impossible}
@@ -15,14 +15,15 @@ use Rattle.obs_meter.specs.Spanned.{graph_matroid}
 use Rattle.obs_meter.specs.Touches.{every_item, touch_at}
 use Rattle.obs_meter.proofs.Assigned.{to_matroid}
 use Rattle.obs_meter.proofs.Instance.{IsMatroid-graph}
-use Rattle.obs_assign.specs.Assignment.{Assignment, branch_at, frozen_branches, is_frozen, pairs}
-use Rattle.obs_assign.specs.Pins.{IsPinnedAt, MayPin, joins, pinned_slots}
+use Rattle.obs_assign.specs.Assignment.{Assignment}
+use Rattle.obs_assign.specs.inner.Assignment.{branch_at, frozen_branches, is_frozen, pairs}
+use Rattle.obs_assign.specs.inner.Pins.{IsPinnedAt, MayPin, joins, pinned_slots}
 use Rattle.obs_assign.proofs.Paths.{joins-own}
 use Rattle.obs_assign.proofs.Slotted.{none_some}
 use Rattle.obs_exchange.specs.declared.Sources.TheVariants.{All}
-use Rattle.obs_exchange.specs.Noting.{AreNoted, Noted}
+use Rattle.obs_exchange.specs.inner.Noting.{AreNoted, Noted}
 use Rattle.obs_exchange.proofs.Noting.{AreNoted-less, AreNoted-more}
-use Rattle.obs_first.specs.Deciding.{HasRefused}
+use Rattle.obs_first.specs.inner.Deciding.{HasRefused}
 
 module _ (g : Graph) (touches : List Touch) (ok : AreBranches g.vertices g.ends) (a : Assignment) (m e : ℕ) (thawed : is_frozen a m ≡ false) where
   -- where the branch may not be pinned, the frozen branches join its ends

@@ -1,3 +1,2 @@
 pub mod First
-pub mod Deciding
-pub mod Backwards
+pub mod inner

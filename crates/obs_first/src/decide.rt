@@ -1,7 +1,7 @@
 // How one meter is decided: it takes the lowest branch with which the pairs can be as many as before.
 ghost use Rattle.std.specs.Prelude.{◌≡◌, ◌+◌, ◌<◌, ℕ, Some, length, slice_index_or};
 ghost use Rattle.obs_meter.specs.declared.Touch.TheVariants.{Nothing};
-ghost use Rattle.obs_first.specs.Deciding.{GoesOn, IsDecided, IsPassed, IsReady, frozen_pairs};
+ghost use Rattle.obs_first.specs.inner.Deciding.{GoesOn, IsDecided, IsPassed, IsReady, frozen_pairs};
 
 use crate::trying::take_branch;
 use obs_assign::{Assignment, Steps};

@@ -7,10 +7,11 @@ ghost use Rattle.obs_matroid.specs.Assignments.{Pair, items};
 ghost use Rattle.obs_matroid.specs.Lists.{In};
 ghost use Rattle.obs_meter.specs.declared.Touch.{Touch};
 ghost use Rattle.obs_meter.specs.Touches.{every_item, is_live, live_items};
-ghost use Rattle.obs_assign.specs.Assignment.{Assignment, IsWhole, StandsOver, pairs};
-ghost use Rattle.obs_exchange.specs.Longest.{IsMost};
-ghost use Rattle.obs_first.specs.Backwards.{HasNoWayTo};
-ghost use Rattle.obs_first.specs.Deciding.{AreCriticalBeside, HasFrozenOf};
+ghost use Rattle.obs_assign.specs.Assignment.{Assignment};
+ghost use Rattle.obs_assign.specs.inner.Assignment.{IsWhole, StandsOver, pairs};
+ghost use Rattle.obs_exchange.specs.inner.Longest.{IsMost};
+ghost use Rattle.obs_first.specs.inner.Backwards.{HasNoWayTo};
+ghost use Rattle.obs_first.specs.inner.Deciding.{AreCriticalBeside, HasFrozenOf};
 ghost use Rattle.obs_first.specs.First.{IsFirstAt, first_pairs};
 
 /// The computed pairs are the first assignment of all meters, and of the live ones: no assignment is longer, and of

@@ -2,12 +2,13 @@
 ghost use Rattle.std.specs.Prelude.{◌≡◌, false, length, replicate};
 ghost use Rattle.obs_graph.specs.Positions.{AreBranches};
 ghost use Rattle.obs_meter.specs.Assignments.{IsRhoAt};
-ghost use Rattle.obs_meter.specs.Sizes.{HasRoomFor};
-ghost use Rattle.obs_meter.specs.Touches.{AreInRange, live_items};
-ghost use Rattle.obs_assign.specs.Assignment.{HasRoomOf, IsWhole, StandsOver, pairs};
-ghost use Rattle.obs_exchange.specs.Laws.{IsThawed};
-ghost use Rattle.obs_exchange.specs.Longest.{IsLongest};
-ghost use Rattle.obs_first.specs.Deciding.{IsReady};
+ghost use Rattle.obs_meter.specs.inner.Sizes.{HasRoomFor};
+ghost use Rattle.obs_meter.specs.Touches.{live_items};
+ghost use Rattle.obs_meter.specs.inner.Touches.{AreInRange};
+ghost use Rattle.obs_assign.specs.inner.Assignment.{HasRoomOf, IsWhole, StandsOver, pairs};
+ghost use Rattle.obs_exchange.specs.inner.Laws.{IsThawed};
+ghost use Rattle.obs_exchange.specs.inner.Longest.{IsLongest};
+ghost use Rattle.obs_first.specs.inner.Deciding.{IsReady};
 ghost use Rattle.obs_first.specs.First.{first_pairs};
 
 use crate::decide::decide;

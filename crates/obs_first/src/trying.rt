@@ -4,10 +4,10 @@ ghost use Rattle.std.specs.Prelude.{◌≡◌, ◌≢◌, ◌+◌, ◌≤◌, �
 ghost use Rattle.obs_matroid.specs.Lists.{In};
 ghost use Rattle.obs_meter.specs.declared.Touch.TheVariants.{Nothing};
 ghost use Rattle.obs_meter.specs.Touches.{touch_at};
-ghost use Rattle.obs_assign.specs.Assignment.{StandsOver, branch_at, pairs};
+ghost use Rattle.obs_assign.specs.inner.Assignment.{StandsOver, branch_at, pairs};
 ghost use Rattle.obs_exchange.specs.declared.Sources.TheVariants.{One};
-ghost use Rattle.obs_exchange.specs.Found.{CanBegin, HasClosed};
-ghost use Rattle.obs_first.specs.Deciding.{AreEnoughFor, GoesOn, HasRefused, HasTaken, IsAside, IsMoved, IsOutOfReach, IsReady, IsUnderWay, IsWithoutPair, MayTake};
+ghost use Rattle.obs_exchange.specs.inner.Found.{CanBegin, HasClosed};
+ghost use Rattle.obs_first.specs.inner.Deciding.{AreEnoughFor, GoesOn, HasRefused, HasTaken, IsAside, IsMoved, IsOutOfReach, IsReady, IsUnderWay, IsWithoutPair, MayTake};
 
 use obs_assign::{Assignment, Steps};
 use obs_exchange::{Found, Over, Sources, Work, search_by};

@@ -5,7 +5,8 @@ use Rattle.std.specs.Prelude.{All, AllPairs, IsSome, is_some, slice_index_or}
 use Rattle.std.proofs.lemmas.List.{get_or_default}
 use Rattle.std.proofs.lemmas.List.Elements.{All-tail, All-head, All-contains, Contains-get_or, All-cons, Contains-append_left, Contains-append_right, Contains-append_cases}
 use Rattle.obs_graph.specs.declared.Ends.{Ends}
-use Rattle.obs_graph.specs.Joined.{is_joined, rank, InRange, IsForest}
+use Rattle.obs_graph.specs.Joined.{is_joined, rank, IsForest}
+use Rattle.obs_graph.specs.inner.Joined.{InRange}
 use Rattle.obs_graph.specs.Positions.{ends_of, IsForestAt}
 use Rattle.obs_graph.proofs.Chains.{Contains-here, Contains-there, Contains-cases, first_joined-contains}
 use Rattle.obs_graph.proofs.Forests.{AreAmong, SameFirst, same_first-among, Grows, IsForest-from_Grows, Grows-from_IsForest}

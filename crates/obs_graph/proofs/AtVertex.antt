@@ -8,7 +8,7 @@ use Rattle.std.proofs.Math.Seq.{take-append_seam}
 use Rattle.obs_graph.specs.declared.Ends.{Ends}
 use Rattle.obs_graph.specs.Joined.{Leads}
 use Rattle.obs_graph.specs.Positions.{AreBranches, has_end, positions_from, branches_at}
-use Rattle.obs_graph.specs.Search.{IsPart}
+use Rattle.obs_graph.specs.inner.Search.{IsPart}
 
 -- each present branch with an end at v stands in v's part
 pub positions_from-contains : {X : Type 0} (test : X → Bool) (i : ℕ) (xs : List X) (p : ℕ) (d : X) → p < length xs → test (get_or xs p d) ≡ true → Contains (positions_from test i xs) (i + p)

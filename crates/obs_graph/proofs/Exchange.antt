@@ -5,7 +5,8 @@ use Rattle.std.proofs.lemmas.Bool.{cases_eq, ne_eqb, eqb-false}
 use Rattle.std.proofs.lemmas.Bool.Decides.{nat_tests}
 use Rattle.std.proofs.lemmas.List.Elements.{Contains-append_right, All-contains}
 use Rattle.obs_graph.specs.declared.Ends.{Ends}
-use Rattle.obs_graph.specs.Joined.{merged, first_joined, is_joined, joined_by, rank, InRange, IsForest, AreDifferent}
+use Rattle.obs_graph.specs.Joined.{merged, first_joined, is_joined, rank, IsForest}
+use Rattle.obs_graph.specs.inner.Joined.{joined_by, InRange, AreDifferent}
 use Rattle.obs_graph.proofs.Chains.{Contains-here, Contains-there, Contains-cases, first_joined-contains, same_first-more}
 use Rattle.obs_graph.proofs.Ranks.{rank-le, rank-add_joined, rank-add_new}
 use Rattle.obs_graph.proofs.Forests.{AreAmong, SameFirst, same_first-among, rank-among, rank-add-le, rank-le-length, rank-from_Grows, Grows-from_rank, top, in_range_top, among_front, among_others, InRange-among, IsForest-from_Grows, Grows-from_IsForest}

@@ -4,7 +4,8 @@ use Rattle.std.specs.List.{Contains}
 use Rattle.std.proofs.lemmas.Bool.{cases_eq, ne_eqb, eqb-false, eq-eqb}
 use Rattle.std.proofs.lemmas.List.Elements.{All-head, All-tail, All-cons, Contains-append_left, Contains-append_right, Contains-append_cases, Contains-get_or, All-contains}
 use Rattle.obs_graph.specs.declared.Ends.{Ends}
-use Rattle.obs_graph.specs.Joined.{merged, first_joined, rank, InRange, IsForest}
+use Rattle.obs_graph.specs.Joined.{merged, first_joined, rank, IsForest}
+use Rattle.obs_graph.specs.inner.Joined.{InRange}
 use Rattle.obs_graph.proofs.Chains.{Contains-here, Contains-there, Contains-cases, first_joined-contains, same_first-more}
 use Rattle.obs_graph.proofs.Ranks.{is_moved, rank_is, rank-le, rank-add_joined, rank-add_new}
 use Rattle.obs_graph.proofs.Counts.{count_below-none}

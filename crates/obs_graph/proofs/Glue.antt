@@ -3,7 +3,8 @@ use Rattle.std.proofs.Common.{◌≡◌, ℕ, suc, ◌<◌, ◌≤◌, false, co
 use Rattle.std.specs.List.{Contains}
 use Rattle.std.proofs.lemmas.Bool.{cases_eq, ne_eqb, eq-eqb, cond-true, cond-false}
 use Rattle.obs_graph.specs.declared.Ends.{Ends}
-use Rattle.obs_graph.specs.Joined.{first_joined, rank, glue, glued}
+use Rattle.obs_graph.specs.Joined.{first_joined, rank}
+use Rattle.obs_graph.specs.inner.Joined.{glue, glued}
 use Rattle.obs_graph.proofs.First.{first_joined-ends}
 use Rattle.obs_graph.proofs.Chains.{Contains-here, Contains-there, Contains-cases, first_joined-contains, same_from_Chain, Chain-from_same_first}
 use Rattle.obs_graph.proofs.Ranks.{rank-le, rank-add_joined, rank-add_new}

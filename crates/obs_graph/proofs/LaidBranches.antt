@@ -6,8 +6,9 @@ use Rattle.std.proofs.Math.Seq.{take-add}
 use Rattle.std.proofs.lemmas.Bool.{cases_eq, eq-eqb, ne_eqb, or_right, or_left, or_from}
 use Rattle.std.proofs.lemmas.List.{length-append, length-set, set-get_or}
 use Rattle.obs_graph.specs.declared.Ends.{Ends}
-use Rattle.obs_graph.specs.Positions.{AreBranches, AreParts, AreStarts, branches_at, has_end, part_start}
-use Rattle.obs_graph.specs.Placing.{place_of, total_of}
+use Rattle.obs_graph.specs.Positions.{AreBranches, branches_at, has_end}
+use Rattle.obs_graph.specs.inner.Positions.{AreParts, AreStarts, part_start}
+use Rattle.obs_graph.specs.inner.Placing.{place_of, total_of}
 use Rattle.obs_graph.proofs.Present.{branch_at}
 use Rattle.obs_graph.proofs.FlatParts.{length-positions_from, part_start-le, sum_below-agree}
 use Rattle.obs_graph.proofs.LaidParts.{CanPut, CanTake, IsLaid, IsLaid-agree, can_put, can_take, changed, changed-at, changed-other, changed_total, laid_part, laid_put, laid_take, parts_below, start_of}

@@ -9,7 +9,7 @@ use Rattle.std.proofs.lemmas.List.Edits.{insert-append_left, insert-append_right
 use Rattle.std.proofs.lemmas.List.Elements.{All-head, All-tail}
 use Rattle.std.proofs.lemmas.List.Sums.{sum_by-append, sum_by-cons}
 use Rattle.obs_graph.specs.Positions.{sum_below}
-use Rattle.obs_graph.specs.Placing.{part_of, place_of, total_of}
+use Rattle.obs_graph.specs.inner.Placing.{part_of, place_of, total_of}
 use Rattle.obs_graph.proofs.FlatParts.{starts_rise, sum_below-agree}
 
 -- where the part of v begins, and the parts below n one after another

@@ -6,8 +6,9 @@ use Rattle.obs_graph.specs.declared.Ends.{Ends}
 use Rattle.obs_graph.specs.Joined.{count_below, rank}
 use Rattle.obs_graph.proofs.Counts.{count_below-agree}
 use Rattle.obs_graph.proofs.Ranks.{is_moved, rank_is}
-use Rattle.obs_graph.specs.Positions.{marked_ends, present}
-use Rattle.obs_graph.specs.Search.{State, IsRooted, IsPart}
+use Rattle.obs_graph.specs.Positions.{present}
+use Rattle.obs_graph.specs.inner.Positions.{marked_ends}
+use Rattle.obs_graph.specs.inner.Search.{State, IsRooted, IsPart}
 use Rattle.obs_graph.proofs.Present.{some_is_in}
 
 abbrev pub kept_at : List (Option Ends) → List Bool → ℕ → Option Ends

@@ -6,7 +6,8 @@ use Rattle.std.proofs.lemmas.List.{append-nil}
 use Rattle.std.proofs.lemmas.List.Elements.{Contains-append_left, Contains-append_right, Contains-append_cases, All-append, All-nil, All-cons}
 use Rattle.std.proofs.lemmas.Bool.{cases_eq, cases_lt, cond-true, cond-false, eq-eqb, eqb-true, lt-ltb, le-ltb}
 use Rattle.obs_graph.specs.declared.Ends.{Ends}
-use Rattle.obs_graph.specs.Joined.{first_joined, is_joined, rank, InRange, renamed, renamed_one, shifted, beside, glue, IsMerging, AreMergedBy}
+use Rattle.obs_graph.specs.Joined.{first_joined, is_joined, rank}
+use Rattle.obs_graph.specs.inner.Joined.{InRange, renamed, renamed_one, shifted, beside, glue, IsMerging, AreMergedBy}
 use Rattle.obs_graph.proofs.Chains.{Contains-here, Contains-there, Contains-cases, first_joined-contains, same_from_Chain, Chain-from_same_first}
 use Rattle.obs_graph.proofs.First.{first_joined-le}
 use Rattle.obs_graph.proofs.IsJoined.{same-from_true, true-from_same}

@@ -7,7 +7,7 @@ use Rattle.std.proofs.lemmas.Option.{IfSome_then}
 use Rattle.std.specs.Prelude.{IsSome, slice_index_or}
 use Rattle.obs_graph.specs.declared.Ends.{Ends}
 use Rattle.obs_graph.specs.Positions.{AreBranches, present}
-use Rattle.obs_graph.specs.Search.{IsPart, AreBelow}
+use Rattle.obs_graph.specs.inner.Search.{IsPart, AreBelow}
 use Rattle.obs_graph.proofs.Chains.{Contains-here, Contains-there, Contains-cases}
 
 pub some_one : (d e : Ends) → Some d ≡ Some e → d ≡ e

@@ -5,7 +5,8 @@ use Rattle.std.proofs.lemmas.Bool.{cases_eq, cases_lt, cases_Bool, and_from, and
 use Rattle.std.proofs.lemmas.List.Elements.{All-head, All-tail}
 use Rattle.std.specs.Cmp.Derive.{one_truth}
 use Rattle.obs_graph.specs.declared.Ends.{Ends}
-use Rattle.obs_graph.specs.Joined.{is_joined, first_joined, joined_by, some_below, rank_in, InRange, LiesIn, IsForest}
+use Rattle.obs_graph.specs.Joined.{is_joined, first_joined, some_below, IsForest}
+use Rattle.obs_graph.specs.inner.Joined.{joined_by, rank_in, InRange, LiesIn}
 use Rattle.obs_graph.proofs.Counts.{count_below-agree, count_below-le, count_below-one_more, count_below-none, some_below-true, some_below-from_true}
 use Rattle.obs_graph.proofs.First.{first_joined-ends}
 use Rattle.obs_graph.proofs.Chains.{Contains-there, same_first-more}

@@ -5,7 +5,8 @@ use Rattle.std.proofs.lemmas.Bool.{cases_eq, cases_Bool, eq-eqb, ne_eqb, eqb-tru
 use Rattle.std.proofs.lemmas.List.Elements.{All-contains}
 use Rattle.std.specs.Cmp.Derive.{one_truth}
 use Rattle.obs_graph.specs.declared.Ends.{Ends}
-use Rattle.obs_graph.specs.Joined.{is_joined, first_joined, count_below, some_below, rank, rank_in, IsSeparate, kept_in}
+use Rattle.obs_graph.specs.Joined.{is_joined, first_joined, count_below, some_below, rank}
+use Rattle.obs_graph.specs.inner.Joined.{rank_in, IsSeparate, kept_in}
 use Rattle.obs_graph.proofs.Counts.{count_below-yes, count_below-no, count_below-agree, count_below-le, count_below-one_more}
 use Rattle.obs_graph.proofs.Chains.{Contains-here, Contains-there, Contains-cases, same_from_Chain, Chain-from_same_first, first_joined-contains, same_first-more}
 use Rattle.obs_graph.proofs.RankIn.{is_counted, counted, counted-from, low, low-facts, low-le, low-uncounted}

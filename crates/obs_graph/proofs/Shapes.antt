@@ -4,7 +4,8 @@ use Rattle.std.specs.List.{Contains}
 use Rattle.std.proofs.lemmas.Bool.{cases_eq, eq-eqb, ne_eqb}
 use Rattle.std.proofs.lemmas.Bool.Decides.{nat_tests}
 use Rattle.obs_graph.specs.declared.Ends.{Ends}
-use Rattle.obs_graph.specs.Joined.{Leads, Chain, first_joined, is_joined, rank, InRange, IsForest, renamed, renamed_one, glue, glued, Merges, IsMerging}
+use Rattle.obs_graph.specs.Joined.{Leads, Chain, first_joined, is_joined, rank, IsForest}
+use Rattle.obs_graph.specs.inner.Joined.{InRange, renamed, renamed_one, glue, glued, Merges, IsMerging}
 use Rattle.std.proofs.lemmas.List.Elements.{All-contains}
 use Rattle.obs_graph.proofs.First.{first_joined-ends}
 use Rattle.obs_graph.proofs.Glue.{glue_cases, glue_same, rank-glued_joined, rank-glued_apart}

@@ -8,7 +8,7 @@ use Rattle.std.proofs.lemmas.List.{append-nil, append_assoc, drop_all, drop-take
 use Rattle.std.proofs.lemmas.List.Edits.{paste_all, take-paste}
 use Rattle.std.proofs.lemmas.List.Sums.{count_by-le-length}
 use Rattle.std.proofs.lemmas.Slice.{put_mid-paste}
-use Rattle.obs_graph.specs.Placing.{part_of, place_of, total_of}
+use Rattle.obs_graph.specs.inner.Placing.{part_of, place_of, total_of}
 
 -- the first total numbers with one more among them
 pub shifted_up : (xs ys : List ℕ) (place total i : ℕ) → place ≤ total → total < length xs → ys ≡ copy_within xs place total (place + 1) → take (suc total) (set ys place i) ≡ insert (take total xs) place i

@@ -4,8 +4,9 @@ use Rattle.std.proofs.Math.Seq.{take-set-lt}
 use Rattle.std.proofs.lemmas.List.{length-set, length-take, drop_all, append-nil, take_all}
 use Rattle.std.proofs.lemmas.List.Elements.{All-set}
 use Rattle.obs_graph.specs.declared.Ends.{Ends}
-use Rattle.obs_graph.specs.Positions.{AreBranches, AreParts, AreStarts, part_start}
-use Rattle.obs_graph.specs.Graph.{IsStored}
+use Rattle.obs_graph.specs.Positions.{AreBranches}
+use Rattle.obs_graph.specs.inner.Positions.{AreParts, AreStarts, part_start}
+use Rattle.obs_graph.specs.inner.Graph.{IsStored}
 use Rattle.obs_graph.proofs.FlatParts.{part_start-le}
 
 -- a part ends within the array

@@ -1,5 +1,4 @@
 pub mod Joined
 pub mod Positions
-pub mod Placing
 pub mod Graph
-pub mod Search
+pub mod inner

@@ -27,7 +27,8 @@ pub struct Graph {
 
 impl Model for Graph {
     ghost use Rattle.std.specs.Prelude.{◌-◌, length, take};
-    ghost use Rattle.obs_graph.specs.Graph.{Graph, IsStored};
+    ghost use Rattle.obs_graph.specs.Graph.{Graph};
+    ghost use Rattle.obs_graph.specs.inner.Graph.{IsStored};
 
     ghost Value = { Graph };
 

@@ -1,7 +1,8 @@
 // The laws of joined, forest and rank.
 ghost use Rattle.std.specs.Prelude.{◌≡◌, ◌≢◌, ◌↔◌, ◌+◌, ◌<◌, ◌≤◌, ℕ, Option, Some, None, List, [], ◌∷◌, ◌++◌, length, Bool, true, false, not, IsTrue, IsSome, All, AllPairs, Contains, slice_index_or};
 ghost use Rattle.obs_graph.specs.declared.Ends.{Ends};
-ghost use Rattle.obs_graph.specs.Joined.{Chain, is_joined, joined_by, first_joined, rank, rank_in, count_below, InRange, LiesIn, IsSeparate, kept_in, IsForest, AreDifferent, glued, renamed, shifted, beside, IsRenaming, IsMerging, AreMergedBy};
+ghost use Rattle.obs_graph.specs.Joined.{Chain, is_joined, first_joined, rank, count_below, IsForest};
+ghost use Rattle.obs_graph.specs.inner.Joined.{joined_by, rank_in, InRange, LiesIn, IsSeparate, kept_in, AreDifferent, glued, renamed, shifted, beside, IsRenaming, IsMerging, AreMergedBy};
 ghost use Rattle.obs_graph.specs.Positions.{ends_of, has_end, branches_at, IsForestAt};
 
 /// The test is true exactly where a chain of the branches leads from u to v.

@@ -2,8 +2,9 @@
 ghost use Rattle.std.specs.Prelude.{◌≡◌, ◌+◌, ◌-◌, ◌*◌, ◌^◌, ◌<◌, ◌≤◌, ◌≢◌, ◌++◌, suc, length, map, take, drop, nat_lt, All, IfSome, None, slice_index, slice_set, count_by};
 ghost use Rattle.std.specs.List.{insert, remove};
 ghost use Rattle.std.specs.List.Sorted.{IsNonDecreasing, IsPartitionedBy};
-ghost use Rattle.obs_graph.specs.Positions.{AreBranches, AreStarts, AreParts};
-ghost use Rattle.obs_graph.specs.Placing.{part_of, place_of, total_of};
+ghost use Rattle.obs_graph.specs.Positions.{AreBranches};
+ghost use Rattle.obs_graph.specs.inner.Positions.{AreStarts, AreParts};
+ghost use Rattle.obs_graph.specs.inner.Placing.{part_of, place_of, total_of};
 
 use crate::Ends;
 use crate::parts::part;

@@ -9,8 +9,9 @@ use Rattle.obs_case_csv.specs.Rows.{names_in}
 use Rattle.obs_case_csv.proofs.AfterLemmas.{fault_where_none, given_valid, tables_are, tables_read}
 use Rattle.obs_case_csv.proofs.LimitLemmas.{tables_after-limit}
 use Rattle.obs_ieee_cdf.specs.declared.fault.CdfFault.{CdfFault}
-use Rattle.obs_ieee_cdf.specs.Case.{IsCase, IsFile}
-use Rattle.obs_ieee_cdf.specs.Laws.{CaseIsRead, CasesAreValid, CasesHaveLimit, FaultWhereNoCase}
+use Rattle.obs_ieee_cdf.specs.inner.Case.{IsCase, IsFile}
+use Rattle.obs_ieee_cdf.specs.Laws.{CasesAreValid, CasesHaveLimit}
+use Rattle.obs_ieee_cdf.specs.inner.Laws.{CaseIsRead, FaultWhereNoCase}
 use Rattle.obs_ieee_cdf.specs.Read.{as_end, case_within, with_tables}
 use Rattle.obs_ieee_cdf.specs.Rows.{cdf_within}
 use Rattle.obs_ieee_cdf.proofs.LawLemmas.{file_is, file_read}

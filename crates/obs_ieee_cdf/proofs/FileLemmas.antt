@@ -12,7 +12,7 @@ use Rattle.obs_bus_branch.proofs.RowsRead.{read_rows-good}
 use Rattle.obs_ieee_cdf.specs.declared.fault.CdfFault.{CdfFault}
 use Rattle.obs_ieee_cdf.specs.declared.stop.Stop.{Stop}
 use Rattle.obs_ieee_cdf.specs.declared.stop.Stop.TheVariants.{Fault, NoMemory}
-use Rattle.obs_ieee_cdf.specs.Reading.{Answers, AreBuses}
+use Rattle.obs_ieee_cdf.specs.inner.Reading.{Answers, AreBuses}
 use Rattle.obs_ieee_cdf.specs.Rows.{branch_rows, bus_rows, cdf_within, numbered, read_branch, read_bus}
 use Rattle.obs_text.specs.Limits.{most_file_bytes}
 use Rattle.obs_text.proofs.LineLaws.{joined, length-ended_lines}

@@ -10,10 +10,10 @@ use Rattle.obs_bus_branch.specs.Rows.{at_end, on_ok, read_rows}
 use Rattle.obs_bus_branch.proofs.RowsRead.{Met, ends, first_met, has_fault, row_met, same_length, stops}
 use Rattle.obs_ieee_cdf.specs.declared.fault.CdfFault.{CdfFault}
 use Rattle.obs_ieee_cdf.specs.declared.fault.CdfFault.TheVariants.{NoBusSection, BusSectionOpen, NoBranchSection, BranchSectionOpen, BadBusNumber, BadType, BusTwice, UnknownBus, TooMany}
-use Rattle.obs_ieee_cdf.specs.Case.{AreBranchLines, IsBranchLine}
+use Rattle.obs_ieee_cdf.specs.inner.Case.{AreBranchLines, IsBranchLine}
 use Rattle.obs_ieee_cdf.specs.Fields.{bus_field, number_of, source_of, tap_field, type_field, z_field}
-use Rattle.obs_ieee_cdf.specs.IsFault.{AreAllBuses, BranchLineHas, BusLineHas, HasBranchFault, HasSectionFault, IsFault, IsNotAfter, SectionHas}
-use Rattle.obs_ieee_cdf.specs.Laws.{FirstFaultOfFile}
+use Rattle.obs_ieee_cdf.specs.inner.IsFault.{AreAllBuses, BranchLineHas, BusLineHas, HasBranchFault, HasSectionFault, IsFault, IsNotAfter, SectionHas}
+use Rattle.obs_ieee_cdf.specs.inner.Laws.{FirstFaultOfFile}
 use Rattle.obs_ieee_cdf.specs.Rows.{branch_of, branch_rows, bus_of, bus_rows, cdf_within, read_branch, read_bus}
 use Rattle.obs_ieee_cdf.specs.Sections.{after_branch_heading, after_bus_heading, after_buses, end_fault, is_branch_heading, is_bus_heading, is_end}
 use Rattle.obs_ieee_cdf.proofs.LawLemmas.{branches_are, branches_read, buses_are, buses_read, few_branches, few_buses}

@@ -10,9 +10,9 @@ use Rattle.obs_bus_branch.specs.Rows.{at_end, on_ok, read_rows}
 use Rattle.obs_bus_branch.proofs.NumberLemmas.{fresh_number, same_branch}
 use Rattle.obs_bus_branch.proofs.RowsRead.{are-read_rows, read_rows-are, read_rows-few, same_length}
 use Rattle.obs_ieee_cdf.specs.declared.fault.CdfFault.{CdfFault}
-use Rattle.obs_ieee_cdf.specs.Case.{AreBranchLines, IsBranchLine, IsBusLine, IsFile}
-use Rattle.obs_ieee_cdf.specs.IsFault.{AreAllBuses}
-use Rattle.obs_ieee_cdf.specs.Laws.{FileIsRead}
+use Rattle.obs_ieee_cdf.specs.inner.Case.{AreBranchLines, IsBranchLine, IsBusLine, IsFile}
+use Rattle.obs_ieee_cdf.specs.inner.IsFault.{AreAllBuses}
+use Rattle.obs_ieee_cdf.specs.inner.Laws.{FileIsRead}
 use Rattle.obs_ieee_cdf.specs.Rows.{branch_rows, bus_rows, cdf_within, read_branch, read_bus}
 use Rattle.obs_ieee_cdf.specs.Sections.{end_fault}
 use Rattle.obs_ieee_cdf.proofs.FileLemmas.{read_rows-buses}

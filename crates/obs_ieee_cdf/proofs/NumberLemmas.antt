@@ -9,7 +9,7 @@ use Rattle.std.specs.Str.{all_ascii_digits}
 use Rattle.obs_text.specs.Numbers.{is_whole, value_after, whole_of}
 use Rattle.obs_text.proofs.DecimalLemmas.{numerals, gate}
 use Rattle.obs_bus_branch.specs.Buses.{Bus}
-use Rattle.obs_ieee_cdf.specs.Reading.{AreBuses}
+use Rattle.obs_ieee_cdf.specs.inner.Reading.{AreBuses}
 use Rattle.obs_ieee_cdf.specs.Fields.{number_of}
 
 -- a bus number is below ten thousand

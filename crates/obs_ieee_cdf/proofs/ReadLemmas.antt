@@ -4,16 +4,17 @@ use Rattle.std.proofs.lemmas.Bool.{and_parts, cases_Bool, leb-false}
 use Rattle.obs_text.specs.Lines.{lines_of}
 use Rattle.obs_case.specs.Tables.{Tables}
 use Rattle.obs_case.specs.declared.rows.Branch.{Branch}
-use Rattle.obs_bus_branch.specs.Buses.{AreNamed, Bus, branch_name, has_bus, place_of_bus}
+use Rattle.obs_bus_branch.specs.Buses.{Bus, branch_name, has_bus, place_of_bus}
+use Rattle.obs_bus_branch.specs.inner.Buses.{AreNamed}
 use Rattle.obs_bus_branch.specs.Rows.{on_ok, read_rows}
 use Rattle.obs_bus_branch.proofs.NumberLemmas.{AreBuses-push, AreNamed-push}
 use Rattle.obs_bus_branch.proofs.RowsRead.{ReadSoFar}
 use Rattle.obs_ieee_cdf.specs.declared.fault.CdfFault.{CdfFault}
 use Rattle.obs_ieee_cdf.specs.declared.stop.Stop.{Stop}
 use Rattle.obs_ieee_cdf.specs.declared.stop.Stop.TheVariants.{Fault, NoMemory}
-use Rattle.obs_ieee_cdf.specs.Case.{IsBranchLine, IsBusLine}
+use Rattle.obs_ieee_cdf.specs.inner.Case.{IsBranchLine, IsBusLine}
 use Rattle.obs_ieee_cdf.specs.Fields.{bus_field, is_blank_line, number_of, source_of, tap_field, type_field, z_field}
-use Rattle.obs_ieee_cdf.specs.Reading.{Answers, AreBuses}
+use Rattle.obs_ieee_cdf.specs.inner.Reading.{Answers, AreBuses}
 use Rattle.obs_ieee_cdf.specs.Rows.{branch_of, bus_of, numbered, read_branch, read_bus}
 use Rattle.obs_ieee_cdf.proofs.NumberLemmas.{number_of-lt}
 

@@ -2,19 +2,21 @@
 use Rattle.std.proofs.Common.{◌≡◌, ℕ, ◌+◌, ◌<◌, ◌≤◌, Bool, true, false, ◌&&◌, ◌⊎◌, cond, List, [], ◌∷◌, ◌++◌, length, map, decimal, Some, None, Result, Ok, Err, refl, sym, ap, ◌∙◌, subst, inl, inr, arith}
 use Rattle.std.proofs.lemmas.Bool.{lt-leb}
 use Rattle.std.proofs.lemmas.List.{length-map, map-append}
-use Rattle.obs_case.specs.Adds.{Refuses, branch_fault, first_fault, name_fault, ends_fault, node_fault, node_of, with_branch, with_node}
+use Rattle.obs_case.specs.Adds.{with_branch, with_node}
+use Rattle.obs_case.specs.inner.Adds.{Refuses, branch_fault, first_fault, name_fault, ends_fault, node_fault, node_of}
 use Rattle.obs_case.specs.Adds as case
 use Rattle.obs_case.specs.Tables.{Tables, has_name, most_rows, node_names, place_of}
 use Rattle.obs_case.specs.declared.rows.Branch.{Branch}
 use Rattle.obs_case.specs.declared.rows.Node.{Node}
 use Rattle.obs_case.specs.declared.table.AddFault.{AddFault}
 use Rattle.obs_case.specs.declared.table.AddFault.TheVariants.{NameTwice, UnknownNode, UnknownPlace, TooMany, NoMemory}
-use Rattle.obs_bus_branch.specs.Buses.{AreNamed, Bus, branch_name, has_bus, node_of_bus, place_of_bus, tables_of_rows}
+use Rattle.obs_bus_branch.specs.Buses.{Bus, branch_name, has_bus, node_of_bus, place_of_bus, tables_of_rows}
+use Rattle.obs_bus_branch.specs.inner.Buses.{AreNamed}
 use Rattle.obs_bus_branch.proofs.NumberLemmas.{has_name-branch, has_name-bus, name_fault-open, new_name, old_name, place_of-bus}
 use Rattle.obs_ieee_cdf.specs.declared.fault.CdfFault.{CdfFault}
 use Rattle.obs_ieee_cdf.specs.declared.fault.CdfFault.TheVariants as cdf
 use Rattle.obs_ieee_cdf.specs.Fields.{bus_field, number_of, source_of, tap_field, type_field, z_field}
-use Rattle.obs_ieee_cdf.specs.Reading.{Answers, AreBuses, stop_of}
+use Rattle.obs_ieee_cdf.specs.inner.Reading.{Answers, AreBuses, stop_of}
 use Rattle.obs_ieee_cdf.specs.Rows.{read_branch, read_bus}
 use Rattle.obs_ieee_cdf.proofs.NumberLemmas.{number_of-lt}
 

@@ -1,8 +1,9 @@
 -- The search for a line that begins with a text.
 use Rattle.std.proofs.Common.{◌≡◌, ℕ, ◌+◌, ◌-◌, true, false, nat_eq, List, ◌∷◌, length, take, ap, ◌∙◌}
 use Rattle.std.specs.List.{starts_with}
-use Rattle.obs_text.specs.Lines.{after_line, lines_of}
-use Rattle.obs_bus_branch.specs.Search.{IsFirstLine}
+use Rattle.obs_text.specs.Lines.{lines_of}
+use Rattle.obs_text.specs.inner.Lines.{after_line}
+use Rattle.obs_bus_branch.specs.inner.Search.{IsFirstLine}
 use Rattle.obs_bus_branch.proofs.SearchLemmas.{Searched, found, next_line, passed_more}
 use Rattle.obs_ieee_cdf.specs.Sections.{begins}
 

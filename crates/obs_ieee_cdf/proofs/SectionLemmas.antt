@@ -6,7 +6,7 @@ use Rattle.std.proofs.lemmas.Bool.{cases_Bool}
 use Rattle.std.proofs.lemmas.List.{drop_all}
 use Rattle.std.specs.List.{after_first, before_first, concat, list_any, position_or_len}
 use Rattle.obs_text.specs.Lines.{ended_lines}
-use Rattle.obs_bus_branch.specs.Search.{IsFirstLine}
+use Rattle.obs_bus_branch.specs.inner.Search.{IsFirstLine}
 use Rattle.obs_ieee_cdf.specs.declared.fault.CdfFault.{CdfFault}
 use Rattle.obs_ieee_cdf.specs.declared.fault.CdfFault.TheVariants.{NoBusSection, BusSectionOpen, NoBranchSection, BranchSectionOpen}
 use Rattle.obs_text.specs.Limits.{most_file_bytes}

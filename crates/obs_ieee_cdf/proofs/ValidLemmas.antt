@@ -8,7 +8,7 @@ use Rattle.obs_bus_branch.specs.Buses.{Bus, node_of_bus, tables_of_rows}
 use Rattle.obs_bus_branch.proofs.NumberLemmas.{AreBuses-none}
 use Rattle.obs_bus_branch.proofs.RowsRead.{read_rows-good}
 use Rattle.obs_bus_branch.proofs.ValidLemmas.{GoodBranches, GoodBranches-push, GoodBuses, GoodBuses-push}
-use Rattle.obs_ieee_cdf.specs.Case.{AreLines}
+use Rattle.obs_ieee_cdf.specs.inner.Case.{AreLines}
 use Rattle.obs_ieee_cdf.specs.Fields.{bus_field, number_of, tap_field, z_field}
 use Rattle.obs_ieee_cdf.specs.Rows.{branch_rows, bus_rows, read_branch, read_bus}
 use Rattle.obs_ieee_cdf.proofs.LawLemmas.{branches_read, buses_read}

@@ -1,10 +1,6 @@
 -- The numbers, names and lines of faults, and what is said of each.
-use Rattle.std.specs.Prelude.{◌≡◌, ℕ, List, codes, Option, None, Some}
-use Rattle.obs_text.specs.Faults.{Fault, fault_of}
-use Rattle.obs_text.specs.declared.faults.InputFault.{InputFault}
-use Rattle.obs_case_csv.specs.Faults.{table_fault}
-use Rattle.obs_ieee_cdf.specs.declared.fault.CdfEnd.{CdfEnd}
-use Rattle.obs_ieee_cdf.specs.declared.fault.CdfEnd.TheVariants as end
+use Rattle.std.specs.Prelude.{ℕ, List, codes}
+use Rattle.obs_text.specs.Faults.{Fault}
 use Rattle.obs_ieee_cdf.specs.declared.fault.CdfFault.{CdfFault}
 use Rattle.obs_ieee_cdf.specs.declared.fault.CdfFault.TheVariants.{NoBusSection, BusSectionOpen, NoBranchSection, BranchSectionOpen, BadBusNumber, BadType, BusTwice, UnknownBus, TooMany}
 
@@ -47,13 +43,3 @@ cdf_line (TooMany line) = line
 -- what is said of a file's fault: the file, the line, and the fault's number and name
 abbrev pub cdf_fault : CdfFault → Fault
 cdf_fault fault = record { part = codes "cdf"; place = cdf_line fault; code = cdf_code fault; name = cdf_name fault }
-
--- an input fault that says what a file's fault is
-abbrev pub IsOfFile : CdfFault → InputFault → Type 0
-IsOfFile fault given = fault_of given ≡ cdf_fault fault
-
--- what is said of a file with its tables that is no case: the file's fault or a table's, or nothing where memory was wanting
-abbrev pub cdf_end_fault : CdfEnd → Option Fault
-cdf_end_fault (end.Cdf fault) = Some (cdf_fault fault)
-cdf_end_fault (end.Table fault) = Some (table_fault fault)
-cdf_end_fault end.NoMemory = None

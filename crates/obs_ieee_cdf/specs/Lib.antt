@@ -1,10 +1,7 @@
-pub mod Case
-pub mod Ends
 pub mod Faults
 pub mod Fields
-pub mod IsFault
 pub mod Laws
 pub mod Read
-pub mod Reading
 pub mod Rows
 pub mod Sections
+pub mod inner

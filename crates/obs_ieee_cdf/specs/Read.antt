@@ -1,10 +1,10 @@
 -- The case that a file with its tables is, or the first fault.
-use Rattle.std.specs.Prelude.{◌≡◌, List, ℕ, Option, Result, Ok, Err}
-use Rattle.obs_case.specs.Tables.{Tables, usual_rows}
+use Rattle.std.specs.Prelude.{List, ℕ, Option, Result, Ok, Err}
+use Rattle.obs_case.specs.Tables.{Tables}
 use Rattle.obs_case_csv.specs.declared.faults.TableFault.{TableFault}
 use Rattle.obs_case_csv.specs.Read.{tables_after}
 use Rattle.obs_ieee_cdf.specs.declared.fault.CdfEnd.{CdfEnd}
-use Rattle.obs_ieee_cdf.specs.declared.fault.CdfEnd.TheVariants.{Cdf, Table, NoMemory}
+use Rattle.obs_ieee_cdf.specs.declared.fault.CdfEnd.TheVariants.{Cdf, Table}
 use Rattle.obs_ieee_cdf.specs.declared.fault.CdfFault.{CdfFault}
 use Rattle.obs_ieee_cdf.specs.Rows.{cdf_within}
 
@@ -22,13 +22,3 @@ with_tables meters candidates (Ok tables) = as_end (tables_after meters candidat
 -- the tables
 abbrev pub case_within : ℕ → List ℕ → List ℕ → Option (List ℕ) → Result Tables CdfEnd
 case_within most cdf meters candidates = with_tables meters candidates (cdf_within most cdf)
-
--- the same under the usual limit
-abbrev pub case_in : List ℕ → List ℕ → Option (List ℕ) → Result Tables CdfEnd
-case_in cdf meters candidates = case_within usual_rows cdf meters candidates
-
--- an answer that ends the reading: want of memory, or this fault
-abbrev pub EndsCase : Result Tables CdfEnd → CdfEnd → Type 0
-EndsCase stated (Cdf fault) = stated ≡ Err (Cdf fault)
-EndsCase stated (Table fault) = stated ≡ Err (Table fault)
-EndsCase stated NoMemory = Unit {0}

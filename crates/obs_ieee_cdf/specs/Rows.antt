@@ -1,7 +1,7 @@
 -- The buses and branches that a file's lines are, or its first fault.
 use Rattle.std.specs.Prelude.{ℕ, ◌+◌, ◌&&◌, Bool, true, nat_le, List, [], ◌∷◌, length, map, Option, None, Some, Result, Ok, Err, if◌then◌else◌}
 use Rattle.obs_text.specs.Lines.{content, ended_lines}
-use Rattle.obs_case.specs.Tables.{Tables, usual_rows}
+use Rattle.obs_case.specs.Tables.{Tables}
 use Rattle.obs_case.specs.declared.rows.Branch.{Branch}
 use Rattle.obs_bus_branch.specs.Buses.{Bus, branch_name, has_bus, place_of_bus, tables_of_rows}
 use Rattle.obs_bus_branch.specs.Rows.{at_end, on_ok, read_rows}
@@ -57,7 +57,3 @@ cdf_within most bytes =
     on_ok (read_rows (read_bus most) [] (bus_rows file)) (λ buses.
     on_ok (read_rows (read_branch most buses) [] (branch_rows file)) (λ branches.
     at_end (end_fault file) (tables_of_rows most buses branches)))
-
--- the same under the usual limit
-abbrev pub cdf_of : List ℕ → Result Tables CdfFault
-cdf_of bytes = cdf_within usual_rows bytes

@@ -1,7 +1,8 @@
 // Why bytes are no case.
 ghost use Rattle.std.specs.Prelude.{◌≡◌, option_map};
-ghost use Rattle.obs_text.specs.Faults.{fault_of};
-ghost use Rattle.obs_ieee_cdf.specs.Faults.{IsOfFile, cdf_code, cdf_end_fault, cdf_line, cdf_name};
+ghost use Rattle.obs_text.specs.inner.Faults.{fault_of};
+ghost use Rattle.obs_ieee_cdf.specs.Faults.{cdf_code, cdf_line, cdf_name};
+ghost use Rattle.obs_ieee_cdf.specs.inner.Faults.{IsOfFile, cdf_end_fault};
 
 use obs_case_csv::TableFault;
 use obs_text::InputFault;

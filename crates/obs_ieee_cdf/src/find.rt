@@ -3,7 +3,7 @@ ghost use Rattle.std.specs.Prelude.{◌≡◌, ◌≤◌, false, length, IfNone,
 ghost use Rattle.std.specs.List.{list_any};
 ghost use Rattle.obs_text.specs.Lines.{ended_lines};
 ghost use Rattle.obs_text.specs.Limits.{most_file_bytes};
-ghost use Rattle.obs_bus_branch.specs.Search.{IsFirstLine};
+ghost use Rattle.obs_bus_branch.specs.inner.Search.{IsFirstLine};
 ghost use Rattle.obs_ieee_cdf.specs.Sections.{begins};
 
 use obs_text::lines;

@@ -1,5 +1,6 @@
 //! What bytes are, and what is read from them.
-ghost use Rattle.obs_ieee_cdf.specs.Laws.{CaseIsRead, CasesAreValid, CasesHaveLimit, FaultWhereNoCase, FileIsRead, FirstFaultOfFile};
+ghost use Rattle.obs_ieee_cdf.specs.Laws.{CasesAreValid, CasesHaveLimit};
+ghost use Rattle.obs_ieee_cdf.specs.inner.Laws.{CaseIsRead, FaultWhereNoCase, FileIsRead, FirstFaultOfFile};
 
 /// The nodes and branches that are read from a file are those that its bytes are: each bus line is a
 /// bus, no two of them have one number, and each branch line is a branch between two buses.

@@ -1,8 +1,9 @@
 // Cases from bytes.
 ghost use Rattle.std.specs.Prelude.{◌≡◌, ◌≤◌, Ok, length, option_map, IfErr, IfOk, OnOk};
 ghost use Rattle.obs_case.specs.Tables.{most_rows, no_rows_within};
-ghost use Rattle.obs_ieee_cdf.specs.Read.{EndsCase, case_in, case_within};
-ghost use Rattle.obs_ieee_cdf.specs.Reading.{Answers};
+ghost use Rattle.obs_ieee_cdf.specs.Read.{case_within};
+ghost use Rattle.obs_ieee_cdf.specs.inner.Read.{EndsCase, case_in};
+ghost use Rattle.obs_ieee_cdf.specs.inner.Reading.{Answers};
 ghost use Rattle.obs_ieee_cdf.specs.Rows.{cdf_within};
 ghost use Rattle.obs_text.specs.Limits.{most_file_bytes};
 

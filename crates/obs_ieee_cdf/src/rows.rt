@@ -3,9 +3,10 @@ ghost use Rattle.std.specs.Prelude.{ℕ, ◌≡◌, ◌+◌, ◌<◌, ◌^◌, L
 ghost use Rattle.obs_text.specs.Lines.{lines_of};
 ghost use Rattle.obs_case.specs.Tables.{no_rows_within};
 ghost use Rattle.obs_case.specs.declared.rows.Branch.{Branch};
-ghost use Rattle.obs_bus_branch.specs.Buses.{AreNamed, Bus, tables_of_rows};
+ghost use Rattle.obs_bus_branch.specs.Buses.{Bus, tables_of_rows};
+ghost use Rattle.obs_bus_branch.specs.inner.Buses.{AreNamed};
 ghost use Rattle.obs_bus_branch.specs.Rows.{read_rows};
-ghost use Rattle.obs_ieee_cdf.specs.Reading.{Answers, AreBuses, stop_of};
+ghost use Rattle.obs_ieee_cdf.specs.inner.Reading.{Answers, AreBuses, stop_of};
 ghost use Rattle.obs_ieee_cdf.specs.Rows.{numbered, read_branch, read_bus};
 
 use crate::fault::CdfFault;

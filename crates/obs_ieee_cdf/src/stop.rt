@@ -1,5 +1,5 @@
 // Why reading stops.
-ghost use Rattle.obs_ieee_cdf.specs.Ends.{IsEndOfStop, IsEndOfTable};
+ghost use Rattle.obs_ieee_cdf.specs.inner.Ends.{IsEndOfStop, IsEndOfTable};
 
 use crate::fault::{CdfEnd, CdfFault};
 use obs_case_csv::TableEnd;

@@ -3,7 +3,7 @@ use Rattle.std.proofs.Common.{zero, suc, [], ◌∷◌, length, map, ap, ◌∙�
 use Rattle.std.proofs.Math.Seq.{drop-append_seam, take-append_seam}
 use Rattle.std.specs.List.{concat}
 use Rattle.obs_io.specs.Contents.{content_at}
-use Rattle.obs_io.specs.Laws.{ContentsStandInBlock}
+use Rattle.obs_io.specs.inner.Laws.{ContentsStandInBlock}
 
 pub ContentsStandInBlock-holds : ContentsStandInBlock
 unfolding content_at

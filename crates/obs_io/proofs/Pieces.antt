@@ -2,8 +2,9 @@
 use Rattle.std.proofs.Common.{arith, ◌≡◌, ◌<◌, ◌≤◌, ◌+◌, ◌-◌, ◌∙◌, ap, sym, ℕ, List, ◌++◌, length, take, drop, vec_len, Option, Some, None, Ok, Err, Vec, length-append, length-drop, length-take-le, take_all, take-add}
 use Rattle.std.specs.Prelude.{IfSome}
 use Rattle.std.specs.declared.alloc.Global.{Global}
-use Rattle.obs_io.specs.Bytes.{AddsPart, IsPiece}
-use Rattle.obs_io.specs.Whole.{IsWhole}
+use Rattle.obs_io.specs.Bytes.{IsPiece}
+use Rattle.obs_io.specs.inner.Bytes.{AddsPart}
+use Rattle.obs_io.specs.inner.Whole.{IsWhole}
 use Rattle.obs_io.specs.declared.whole.ReadEnd.TheVariants.{TooLong}
 
 -- these bytes are the front of a content that is told

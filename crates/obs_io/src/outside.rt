@@ -2,7 +2,7 @@
 ghost use Rattle.std.specs.Prelude.{◌≡◌, ◌≢◌, ◌<◌, ◌≤◌, ◌-◌, ℕ, List, Option, length, IfOk, IsOk};
 ghost use Rattle.obs_io.specs.Causes.{HasCause};
 ghost use Rattle.obs_io.specs.Bytes.{ReadsPart, TakesFront, PutsFront};
-ghost use Rattle.obs_io.specs.Limits.{usual_place};
+ghost use Rattle.obs_io.specs.inner.Limits.{usual_place};
 
 /// The outside failed, and its count of faults tells so.
 #[derive(Clone, Copy, Debug, PartialEq, Eq)]

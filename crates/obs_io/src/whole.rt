@@ -1,8 +1,8 @@
 // Files read whole, and bytes written whole.
 ghost use Rattle.std.specs.Prelude.{◌≡◌, ◌≢◌, ◌<◌, ◌≤◌, ◌+◌, ℕ, length, IfOk, IsErrOf, IsOk, vec_len};
 ghost use Rattle.obs_io.specs.Causes.{Rose, HasCause};
-ghost use Rattle.obs_io.specs.Bytes.{AddsPart, Writes};
-ghost use Rattle.obs_io.specs.Whole.{IsWhole};
+ghost use Rattle.obs_io.specs.inner.Bytes.{AddsPart, Writes};
+ghost use Rattle.obs_io.specs.inner.Whole.{IsWhole};
 ghost use Rattle.obs_io.specs.declared.whole.ReadEnd.TheVariants.{NoMemory};
 
 use crate::{Failed, Files, Sink};

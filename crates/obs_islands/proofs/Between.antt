@@ -4,7 +4,7 @@ use Rattle.std.proofs.lemmas.List.{get_or_append_left}
 use Rattle.std.specs.Prelude.{slice_index_or}
 use Rattle.obs_graph.specs.declared.Ends.{Ends}
 use Rattle.obs_graph.specs.Positions.{AreBranches}
-use Rattle.obs_matroid.specs.Laws.{LiesBetween}
+use Rattle.obs_matroid.specs.inner.Laws.{LiesBetween}
 use Rattle.obs_matroid.specs.Lists.{In, IsDistinct}
 use Rattle.obs_matroid.proofs.Agreeing.{IsIsland-agree, IsRho-agree}
 use Rattle.obs_matroid.proofs.Lists.{In-filter_from}
@@ -18,7 +18,7 @@ use Rattle.obs_meter.proofs.Assigned.{live_items-distinct, rho-from_matroid, rho
 use Rattle.obs_meter.proofs.Instance.{IsJoining-graph, IsMatroid-graph}
 use Rattle.obs_meter.proofs.Live.{live_low}
 use Rattle.obs_meter.proofs.Touched.{touched-vertex}
-use Rattle.obs_islands.specs.Firsts.{BetweenIslandsRaise, LiesBetweenAt}
+use Rattle.obs_islands.specs.inner.Firsts.{BetweenIslandsRaise, LiesBetweenAt}
 use Rattle.obs_islands.specs.Islands.{every_vertex}
 use Rattle.obs_islands.proofs.Firsts.{first_same}
 use Rattle.obs_islands.proofs.Parts.{In-vertices, vertices-distinct}

@@ -14,11 +14,12 @@ use Rattle.obs_matroid.proofs.Lists.{clash, In-map_from}
 use Rattle.obs_meter.specs.declared.Hub.{Hub}
 use Rattle.obs_meter.specs.declared.Touch.{Touch}
 use Rattle.obs_meter.specs.declared.Touch.TheVariants.{Nothing, Edge, Star, Front}
-use Rattle.obs_meter.specs.Touches.{AreInRange, IsInRange, hub_of, touch_at, touched}
+use Rattle.obs_meter.specs.Touches.{touch_at, touched}
+use Rattle.obs_meter.specs.inner.Touches.{AreInRange, IsInRange, hub_of}
 use Rattle.obs_meter.proofs.Touched.{In-from_any, any-from_In, touch-rising, touched-hub, touched-present}
 use Rattle.obs_assign.specs.Assignment.{Assignment}
-use Rattle.obs_islands.specs.GivenUp.{GivesUp}
-use Rattle.obs_islands.specs.Rounds.{is_between, is_crossing, kept, remaining, straddles, straddles_at}
+use Rattle.obs_islands.specs.inner.GivenUp.{GivesUp}
+use Rattle.obs_islands.specs.inner.Rounds.{is_between, is_crossing, kept, remaining, straddles, straddles_at}
 use Rattle.obs_islands.proofs.Hubs.{In-take_below}
 
 hub_cases : (o : Option Hub) → (o ≡ None) ⊎ ((h : Hub) × (o ≡ Some h))

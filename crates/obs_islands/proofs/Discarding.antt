@@ -12,7 +12,8 @@ use Rattle.obs_graph.specs.Graph.{Graph}
 use Rattle.obs_graph.proofs.First.{first_joined-first_joined, first_joined-le}
 use Rattle.obs_graph.proofs.Present.{branch_at as at_branch, present_low, some_is_in}
 use Rattle.obs_matroid.specs.Lists.{In, other_than, without}
-use Rattle.obs_matroid.specs.Assignments.{branches, part}
+use Rattle.obs_matroid.specs.Assignments.{branches}
+use Rattle.obs_matroid.specs.inner.Assignments.{part}
 use Rattle.obs_matroid.proofs.Comparing.{cases_Option}
 use Rattle.obs_matroid.proofs.Graphs.{joined_member, joined_more}
 use Rattle.obs_matroid.proofs.Islands.{joined_at_hub}
@@ -22,23 +23,25 @@ use Rattle.obs_meter.specs.declared.Hub.{Hub}
 use Rattle.obs_meter.specs.declared.Touch.{Touch}
 use Rattle.obs_meter.specs.declared.Touch.TheVariants.{Nothing, Edge, Star, Front}
 use Rattle.obs_meter.specs.Spanned.{ends_at, graph_matroid, common_vertex, joined_at, rank_at}
-use Rattle.obs_meter.specs.Touches.{hub_of, live_items, touch_at, touched}
+use Rattle.obs_meter.specs.Touches.{live_items, touch_at, touched}
+use Rattle.obs_meter.specs.inner.Touches.{hub_of}
 use Rattle.obs_meter.proofs.Assigned.{live_items-distinct}
 use Rattle.obs_meter.proofs.Instance.{IsJoining-graph}
 use Rattle.obs_meter.proofs.Touched.{itself_from, live-from_In, touched-vertex, touched-present}
 use Rattle.obs_meter.proofs.Live.{In-live, live-from_live_items}
-use Rattle.obs_assign.specs.Assignment.{Assignment, branch_at}
-use Rattle.obs_assign.specs.Pins.{joins}
+use Rattle.obs_assign.specs.Assignment.{Assignment}
+use Rattle.obs_assign.specs.inner.Assignment.{branch_at}
+use Rattle.obs_assign.specs.inner.Pins.{joins}
 use Rattle.obs_assign.proofs.Paths.{apart_ends, joins-from}
-use Rattle.obs_exchange.specs.Longest.{IsLongest}
+use Rattle.obs_exchange.specs.inner.Longest.{IsLongest}
 use Rattle.obs_exchange.proofs.Queued.{eqb_false}
 use Rattle.obs_exchange.proofs.Walking.{touched_ends, touched_low}
 use Rattle.obs_islands.specs.Firsts.{island_first, islands_of}
-use Rattle.obs_islands.specs.GivenUp.{GivesUp, IsLost}
-use Rattle.obs_islands.specs.GivenUp.IsLost.{first, next}
+use Rattle.obs_islands.specs.inner.GivenUp.{GivesUp, IsLost}
+use Rattle.obs_islands.specs.inner.GivenUp.IsLost.{first, next}
 use Rattle.obs_islands.specs.Islands.{every_vertex}
-use Rattle.obs_islands.specs.Left.{AreLeft}
-use Rattle.obs_islands.specs.Rounds.{AreFirsts, is_between, is_crossing, remaining, straddles}
+use Rattle.obs_islands.specs.inner.Left.{AreLeft}
+use Rattle.obs_islands.specs.inner.Rounds.{AreFirsts, is_between, is_crossing, remaining, straddles}
 use Rattle.obs_islands.proofs.Crossing.{crossing-from, kept-other, none_straddles, remaining_at, straddles-from, uncrossed-from}
 use Rattle.obs_islands.proofs.Firsts.{Settled, island_first-is}
 use Rattle.obs_islands.proofs.Over.{IsApart, IsClosedOver, IsOver, apart_from, laws, lies_outside, longest_over, not_marked, over_others, own_from, own_pairs}

@@ -12,13 +12,15 @@ use Rattle.obs_graph.proofs.Counts.{count_below-agree, count_below-le-n, count_b
 use Rattle.obs_meter.specs.declared.Hub.{Hub}
 use Rattle.obs_meter.specs.declared.Touch.{Touch}
 use Rattle.obs_meter.specs.declared.Touch.TheVariants.{Nothing}
-use Rattle.obs_meter.specs.Touches.{hub_of, touch_at, touches_branch}
+use Rattle.obs_meter.specs.Touches.{touch_at}
+use Rattle.obs_meter.specs.inner.Touches.{hub_of, touches_branch}
 use Rattle.obs_matroid.specs.Lists.{In}
 use Rattle.obs_meter.proofs.Touched.{In-from_any}
-use Rattle.obs_assign.specs.Assignment.{Assignment, branch_at}
-use Rattle.obs_islands.specs.GivenUp.{GivesUp, IsLost, IsQueue, StillGivesUp, is_noted}
-use Rattle.obs_islands.specs.GivenUp.IsLost.{first, next}
-use Rattle.obs_islands.specs.Rounds.{AreLowest, IsNotedAt, noted}
+use Rattle.obs_assign.specs.Assignment.{Assignment}
+use Rattle.obs_assign.specs.inner.Assignment.{branch_at}
+use Rattle.obs_islands.specs.inner.GivenUp.{GivesUp, IsLost, IsQueue, StillGivesUp, is_noted}
+use Rattle.obs_islands.specs.inner.GivenUp.IsLost.{first, next}
+use Rattle.obs_islands.specs.inner.Rounds.{AreLowest, IsNotedAt, noted}
 use Rattle.obs_islands.proofs.Hubs.{hub-end}
 use Rattle.obs_islands.proofs.Noting.{NotedAt-both}
 

@@ -10,7 +10,8 @@ use Rattle.obs_matroid.specs.Lists.{In, IsRising}
 use Rattle.obs_matroid.proofs.Contained.{Contains-from_In}
 use Rattle.obs_meter.specs.declared.Hub.{Hub}
 use Rattle.obs_meter.specs.declared.Touch.{Touch}
-use Rattle.obs_meter.specs.Touches.{hub_of, touched}
+use Rattle.obs_meter.specs.Touches.{touched}
+use Rattle.obs_meter.specs.inner.Touches.{hub_of}
 use Rattle.obs_meter.proofs.Touched.{In-from_any, In-take, touched-hub, touched-present}
 
 -- what is no position isn't touched

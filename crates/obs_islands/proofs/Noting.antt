@@ -9,8 +9,9 @@ use Rattle.obs_matroid.proofs.Contained.{Contains-from_In}
 use Rattle.obs_meter.specs.declared.Hub.{Hub}
 use Rattle.obs_meter.specs.declared.Touch.{Touch}
 use Rattle.obs_meter.specs.declared.Touch.TheVariants.{Nothing}
-use Rattle.obs_meter.specs.Touches.{hub_of, touch_at}
-use Rattle.obs_islands.specs.Rounds.{IsNotedAt, noted}
+use Rattle.obs_meter.specs.Touches.{touch_at}
+use Rattle.obs_meter.specs.inner.Touches.{hub_of}
+use Rattle.obs_islands.specs.inner.Rounds.{IsNotedAt, noted}
 
 -- where a position is noted, there is a vertex
 pub noted_low : (lowest : List ℕ) (v n : ℕ) → noted lowest v < n → n ≤ 4294967295 → v < length lowest

@@ -7,9 +7,11 @@ use Rattle.obs_graph.specs.Positions.{AreBranches}
 use Rattle.obs_graph.specs.Graph.{Graph}
 use Rattle.obs_graph.proofs.Present.{branch_at, some_is_in}
 use Rattle.obs_matroid.specs.Lists.{In, IsDistinct, other_than, without}
-use Rattle.obs_matroid.specs.Matroid.{IsMatroid, Matroid}
-use Rattle.obs_matroid.specs.Assignments.{Pair, branches, items, part, IsAssignment}
-use Rattle.obs_matroid.specs.Closed.{IsLeastClosed, every, none}
+use Rattle.obs_matroid.specs.Matroid.{Matroid}
+use Rattle.obs_matroid.specs.inner.Matroid.{IsMatroid}
+use Rattle.obs_matroid.specs.Assignments.{Pair, branches, items, IsAssignment}
+use Rattle.obs_matroid.specs.inner.Assignments.{part}
+use Rattle.obs_matroid.specs.inner.Closed.{IsLeastClosed, every, none}
 use Rattle.obs_matroid.proofs.Critical.{longest_from_closed}
 use Rattle.obs_matroid.proofs.Islands.{HoldsInside, one_piece}
 use Rattle.obs_matroid.proofs.Least.{grows_or_closes}
@@ -20,9 +22,10 @@ use Rattle.obs_meter.specs.Spanned.{ends_at, graph_matroid, joined_at, rank_at}
 use Rattle.obs_meter.specs.Touches.{live_items, touch_at}
 use Rattle.obs_meter.proofs.Assigned.{from_matroid, live_items-distinct}
 use Rattle.obs_meter.proofs.Instance.{IsJoining-graph, IsMatroid-graph}
-use Rattle.obs_assign.specs.Assignment.{Assignment, pairs}
-use Rattle.obs_assign.specs.Pins.{joins}
-use Rattle.obs_exchange.specs.Longest.{IsLongest}
+use Rattle.obs_assign.specs.Assignment.{Assignment}
+use Rattle.obs_assign.specs.inner.Assignment.{pairs}
+use Rattle.obs_assign.specs.inner.Pins.{joins}
+use Rattle.obs_exchange.specs.inner.Longest.{IsLongest}
 use Rattle.obs_exchange.proofs.AtGraph.{IsAssignment-live}
 use Rattle.obs_islands.specs.Islands.{every_vertex}
 use Rattle.obs_islands.proofs.Parts.{In-vertices, vertices-distinct}

@@ -13,7 +13,8 @@ use Rattle.obs_graph.proofs.Forests.{AreAmong, same_first-among}
 use Rattle.obs_graph.proofs.IsJoined.{false-from_apart, true-from_same}
 use Rattle.obs_graph.proofs.Present.{contains_present, present_contains, some_is_in}
 use Rattle.obs_matroid.specs.Lists.{In}
-use Rattle.obs_matroid.specs.Assignments.{Pair, branches, items, part}
+use Rattle.obs_matroid.specs.Assignments.{Pair, branches, items}
+use Rattle.obs_matroid.specs.inner.Assignments.{part}
 use Rattle.obs_matroid.proofs.Bounds.{length-items}
 use Rattle.obs_matroid.proofs.Contained.{Contains-from_In, In-from_Contains}
 use Rattle.obs_matroid.proofs.Islands.{HoldsInside}
@@ -27,11 +28,12 @@ use Rattle.obs_meter.specs.Touches.{every_item, live_items, touch_at, touched}
 use Rattle.obs_meter.proofs.Assigned.{live_items-distinct}
 use Rattle.obs_meter.proofs.Touched.{live-from_In}
 use Rattle.obs_meter.proofs.Live.{In-live, live-from_live_items}
-use Rattle.obs_assign.specs.Assignment.{Assignment, branch_at, pairs}
+use Rattle.obs_assign.specs.Assignment.{Assignment}
+use Rattle.obs_assign.specs.inner.Assignment.{branch_at, pairs}
 use Rattle.obs_assign.proofs.Slotted.{branch_slot, none_some, slot_branch}
-use Rattle.obs_exchange.specs.Longest.{IsLongest, IsMost}
+use Rattle.obs_exchange.specs.inner.Longest.{IsLongest, IsMost}
 use Rattle.obs_islands.specs.Islands.{every_vertex}
-use Rattle.obs_islands.specs.Left.{AreLeft, HasLeft, IsLeftAt, is_nothing}
+use Rattle.obs_islands.specs.inner.Left.{AreLeft, HasLeft, IsLeftAt, is_nothing}
 use Rattle.obs_islands.proofs.Over.{IsClosedOver, IsOver, all_pairs, laws}
 
 -- each item touches what it touched at first, or was discarded

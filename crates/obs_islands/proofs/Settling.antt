@@ -8,13 +8,14 @@ use Rattle.obs_graph.specs.Positions.{AreBranches}
 use Rattle.obs_matroid.specs.Lists.{In}
 use Rattle.obs_meter.specs.declared.Touch.{Touch}
 use Rattle.obs_meter.specs.declared.Touch.TheVariants.{Nothing}
-use Rattle.obs_meter.specs.Touches.{AreInRange, live_items}
+use Rattle.obs_meter.specs.Touches.{live_items}
+use Rattle.obs_meter.specs.inner.Touches.{AreInRange}
 use Rattle.obs_assign.specs.Assignment.{Assignment}
-use Rattle.obs_exchange.specs.Longest.{IsLongest}
+use Rattle.obs_exchange.specs.inner.Longest.{IsLongest}
 use Rattle.obs_islands.specs.Firsts.{islands_of}
-use Rattle.obs_islands.specs.GivenUp.{GivesUp}
-use Rattle.obs_islands.specs.Left.{AreLeft}
-use Rattle.obs_islands.specs.Rounds.{AreFirsts, is_crossing, kept, remaining, straddles}
+use Rattle.obs_islands.specs.inner.GivenUp.{GivesUp}
+use Rattle.obs_islands.specs.inner.Left.{AreLeft}
+use Rattle.obs_islands.specs.inner.Rounds.{AreFirsts, is_crossing, kept, remaining, straddles}
 use Rattle.obs_islands.proofs.Crossing.{fewer_hubs, hubs, kept_cases, remaining_at, remaining_in_range}
 use Rattle.obs_islands.proofs.Discarding.{round_holds, round_islands, round_spares}
 use Rattle.obs_islands.proofs.Over.{IsClosedOver, closed_exists}

@@ -2,10 +2,10 @@
 ghost use Rattle.std.specs.Prelude.{◌≡◌, ◌<◌, ◌^◌, length, slice_index_or};
 ghost use Rattle.std.specs.List.{list_any};
 ghost use Rattle.obs_meter.specs.declared.Touch.TheVariants.{Nothing};
-ghost use Rattle.obs_meter.specs.Touches.{AreInRange, IsInRange, touches_branch};
-ghost use Rattle.obs_islands.specs.GivenUp.{GivesUp};
-ghost use Rattle.obs_islands.specs.Left.{AreOver};
-ghost use Rattle.obs_islands.specs.Rounds.{is_crossing, noted, remaining, straddles};
+ghost use Rattle.obs_meter.specs.inner.Touches.{AreInRange, IsInRange, touches_branch};
+ghost use Rattle.obs_islands.specs.inner.GivenUp.{GivesUp};
+ghost use Rattle.obs_islands.specs.inner.Left.{AreOver};
+ghost use Rattle.obs_islands.specs.inner.Rounds.{is_crossing, noted, remaining, straddles};
 
 use crate::follow::follow;
 use crate::pairing::Pairing;

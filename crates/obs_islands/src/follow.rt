@@ -1,8 +1,8 @@
 // What is lost after other branches are.
 ghost use Rattle.std.specs.Prelude.{◌≡◌, ◌+◌, ◌<◌, ◌^◌, ◌==◌, length, slice_set};
-ghost use Rattle.obs_islands.specs.GivenUp.{IsQueue, StillGivesUp};
-ghost use Rattle.obs_islands.specs.Left.{AreOver};
-ghost use Rattle.obs_islands.specs.Rounds.{IsNotedAt, noted};
+ghost use Rattle.obs_islands.specs.inner.GivenUp.{IsQueue, StillGivesUp};
+ghost use Rattle.obs_islands.specs.inner.Left.{AreOver};
+ghost use Rattle.obs_islands.specs.inner.Rounds.{IsNotedAt, noted};
 
 use crate::pairing::Pairing;
 use crate::pieces::lower;

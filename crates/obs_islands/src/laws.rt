@@ -3,7 +3,8 @@ ghost use Rattle.std.specs.Prelude.{◌≡◌, ◌<◌, ◌↔◌, ℕ, Bool, tr
 ghost use Rattle.obs_graph.specs.declared.Ends.{Ends};
 ghost use Rattle.obs_graph.specs.Positions.{AreBranches, branches_at};
 ghost use Rattle.obs_meter.specs.declared.Touch.{Touch};
-ghost use Rattle.obs_islands.specs.Firsts.{BetweenIslandsRaise, island_first};
+ghost use Rattle.obs_islands.specs.Firsts.{island_first};
+ghost use Rattle.obs_islands.specs.inner.Firsts.{BetweenIslandsRaise};
 ghost use Rattle.obs_islands.specs.Islands.{IsFirstIn, IsIslandAt, IsOnlyIslandOf};
 
 /// Each vertex lies in exactly one island.

@@ -1,10 +1,10 @@
 // The pairs whose item is still used, and the pieces of their branches.
 ghost use Rattle.std.specs.Prelude.{◌≡◌, ◌<◌, ◌≤◌, ◌^◌, ℕ, length, slice_index, slice_index_or};
-ghost use Rattle.obs_graph.specs.Search.{room_of};
+ghost use Rattle.obs_graph.specs.inner.Search.{room_of};
 ghost use Rattle.obs_meter.specs.declared.Touch.TheVariants.{Nothing};
-ghost use Rattle.obs_assign.specs.Assignment.{IsWhole};
-ghost use Rattle.obs_islands.specs.Left.{AreLeft, AreOver, HasPlaces, IsLeftAt, IsNumbered, is_nothing};
-ghost use Rattle.obs_islands.specs.Rounds.{AreFirsts};
+ghost use Rattle.obs_assign.specs.inner.Assignment.{IsWhole};
+ghost use Rattle.obs_islands.specs.inner.Left.{AreLeft, AreOver, HasPlaces, IsLeftAt, IsNumbered, is_nothing};
+ghost use Rattle.obs_islands.specs.inner.Rounds.{AreFirsts};
 
 use crate::pairing::Pairing;
 use obs_graph::Ends;

@@ -4,8 +4,9 @@ ghost use Rattle.obs_graph.specs.Positions.{has_end};
 ghost use Rattle.obs_matroid.specs.Lists.{In};
 ghost use Rattle.obs_meter.specs.declared.Hub.{Hub};
 ghost use Rattle.obs_meter.specs.declared.Touch.TheVariants.{Nothing};
-ghost use Rattle.obs_meter.specs.Touches.{AreInRange, hub_of, touch_at};
-ghost use Rattle.obs_islands.specs.Rounds.{AreFirsts, AreLowest, IsNotedAt, is_between, is_crossing};
+ghost use Rattle.obs_meter.specs.Touches.{touch_at};
+ghost use Rattle.obs_meter.specs.inner.Touches.{AreInRange, hub_of};
+ghost use Rattle.obs_islands.specs.inner.Rounds.{AreFirsts, AreLowest, IsNotedAt, is_between, is_crossing};
 
 use obs_forest::Forest;
 use obs_graph::{Ends, Graph};

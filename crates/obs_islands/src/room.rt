@@ -1,8 +1,8 @@
 // Islands from the pairs at hand.
 ghost use Rattle.std.specs.Prelude.{◌≡◌, [], IfOk};
-ghost use Rattle.obs_meter.specs.Sizes.{HasRoomFor};
-ghost use Rattle.obs_meter.specs.Touches.{AreInRange};
-ghost use Rattle.obs_exchange.specs.Longest.{IsLongest};
+ghost use Rattle.obs_meter.specs.inner.Sizes.{HasRoomFor};
+ghost use Rattle.obs_meter.specs.inner.Touches.{AreInRange};
+ghost use Rattle.obs_exchange.specs.inner.Longest.{IsLongest};
 ghost use Rattle.obs_islands.specs.Firsts.{islands_of};
 
 use crate::memory::NoMemory;
@@ -33,8 +33,8 @@ pub struct IslandRoom {
 
 impl Model for IslandRoom {
     ghost use Rattle.std.specs.Prelude.{◌≡◌, ◌≤◌, length, take};
-    ghost use Rattle.obs_graph.specs.Search.{room_of};
-    ghost use Rattle.obs_islands.specs.IslandWork.{IslandWork};
+    ghost use Rattle.obs_graph.specs.inner.Search.{room_of};
+    ghost use Rattle.obs_islands.specs.inner.IslandWork.{IslandWork};
 
     ghost Value = { IslandWork };
 

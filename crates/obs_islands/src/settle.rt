@@ -1,10 +1,10 @@
 // Rounds of discarding.
 ghost use Rattle.std.specs.Prelude.{◌≡◌, ◌≤◌, length, take};
-ghost use Rattle.obs_graph.specs.Search.{room_of};
-ghost use Rattle.obs_meter.specs.Touches.{AreInRange};
-ghost use Rattle.obs_exchange.specs.Longest.{IsLongest};
+ghost use Rattle.obs_graph.specs.inner.Search.{room_of};
+ghost use Rattle.obs_meter.specs.inner.Touches.{AreInRange};
+ghost use Rattle.obs_exchange.specs.inner.Longest.{IsLongest};
 ghost use Rattle.obs_islands.specs.Firsts.{islands_of};
-ghost use Rattle.obs_islands.specs.Left.{HasPlaces, IsNumbered};
+ghost use Rattle.obs_islands.specs.inner.Left.{HasPlaces, IsNumbered};
 
 use crate::discard::discard;
 use crate::left::name_left;

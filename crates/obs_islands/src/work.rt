@@ -1,9 +1,9 @@
 // Islands, and what they are found in.
 ghost use Rattle.std.specs.Prelude.{◌≡◌, [], IfOk, length};
-ghost use Rattle.obs_meter.specs.Sizes.{HasRoomFor};
-ghost use Rattle.obs_meter.specs.Touches.{AreInRange};
-ghost use Rattle.obs_assign.specs.Assignment.{Fits, HasRoomOf, StandsOver};
-ghost use Rattle.obs_exchange.specs.Laws.{IsThawed};
+ghost use Rattle.obs_meter.specs.inner.Sizes.{HasRoomFor};
+ghost use Rattle.obs_meter.specs.inner.Touches.{AreInRange};
+ghost use Rattle.obs_assign.specs.inner.Assignment.{Fits, HasRoomOf, StandsOver};
+ghost use Rattle.obs_exchange.specs.inner.Laws.{IsThawed};
 ghost use Rattle.obs_islands.specs.Firsts.{islands_of};
 
 use crate::memory::NoMemory;
@@ -30,7 +30,7 @@ pub struct IslandWork {
 
 impl Model for IslandWork {
     ghost use Rattle.std.specs.Prelude.{◌≡◌, length};
-    ghost use Rattle.obs_islands.specs.IslandWork.{IslandWork};
+    ghost use Rattle.obs_islands.specs.inner.IslandWork.{IslandWork};
 
     ghost Value = { IslandWork };
 

@@ -4,15 +4,17 @@ use Rattle.obs_graph.specs.Graph.{Graph}
 use Rattle.obs_graph.specs.Positions.{AreBranches}
 use Rattle.obs_case.specs.Tables.{IsValid, Tables}
 use Rattle.obs_meter.specs.Held.{Meters}
-use Rattle.obs_meter.specs.Sizes.{HasRoomFor, Sizes}
+use Rattle.obs_meter.specs.inner.Sizes.{HasRoomFor, Sizes}
 use Rattle.obs_meter.specs.Touches.{every_item}
-use Rattle.obs_assign.specs.Assignment.{Assignment, Fits, HasRoomOf}
-use Rattle.obs_exchange.specs.Found.{Work}
-use Rattle.obs_exchange.specs.Longest.{IsLongest, IsMost}
-use Rattle.obs_network.specs.Network.{Network, case_branches, case_meters, case_needed, case_position_count, case_vertex_room, network_of}
+use Rattle.obs_assign.specs.Assignment.{Assignment}
+use Rattle.obs_assign.specs.inner.Assignment.{Fits, HasRoomOf}
+use Rattle.obs_exchange.specs.inner.Found.{Work}
+use Rattle.obs_exchange.specs.inner.Longest.{IsLongest, IsMost}
+use Rattle.obs_network.specs.Network.{Network, case_branches, case_meters, case_needed, case_vertex_room, network_of}
+use Rattle.obs_network.specs.inner.Network.{case_position_count}
 use Rattle.obs_network.proofs.Observed.{most_pairs}
 use Rattle.obs_network.proofs.OfCase.{case_branches-are, case_vertex_count-le, length-case_branches, length-case_meters}
-use Rattle.obs_kept.specs.Kept.{AreLongest, HasRoom, network_sizes}
+use Rattle.obs_kept.specs.inner.Kept.{AreLongest, HasRoom, network_sizes}
 
 -- the room for a case's pairs is enough for its network
 fits_case : (t : Tables) (a : Assignment) (w : Work) → HasRoom (network_of t) a w → Fits a (network_of t).graph (case_meters t)

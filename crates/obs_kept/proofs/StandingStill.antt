@@ -10,8 +10,8 @@ use Rattle.obs_meter.specs.declared.Touch.{Touch}
 use Rattle.obs_meter.specs.declared.Touch.TheVariants.{Nothing}
 use Rattle.obs_meter.specs.Touches.{touch_at}
 use Rattle.obs_meter.proofs.Touched.{any-from_In, touched-present}
-use Rattle.obs_assign.specs.Still.{is_still, still}
-use Rattle.obs_network.specs.Edited.{ArePresent}
+use Rattle.obs_assign.specs.inner.Still.{is_still, still}
+use Rattle.obs_network.specs.inner.Edited.{ArePresent}
 
 -- the branches that meters of the pairs touch are present
 pub present-touched : (ends : List (Option Ends)) (touches : List Touch) (A : List Pair) → ((p : Pair) → In p A → In p.1 (touch_at ends touches p.0)) → ArePresent ends (branches A)

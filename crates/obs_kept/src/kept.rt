@@ -2,7 +2,7 @@
 ghost use Rattle.std.specs.Prelude.{◌≡◌, IfOk};
 ghost use Rattle.obs_case.specs.Tables.{IsValid};
 ghost use Rattle.obs_network.specs.Network.{network_of};
-ghost use Rattle.obs_kept.specs.Kept.{AreLongest, HasRoom};
+ghost use Rattle.obs_kept.specs.inner.Kept.{AreLongest, HasRoom};
 
 use crate::memory::NoMemory;
 use obs_assign::{Assignment, Steps};

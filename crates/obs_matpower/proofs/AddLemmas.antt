@@ -3,7 +3,8 @@ use Rattle.std.proofs.Common.{◌≡◌, ℕ, ◌+◌, ◌<◌, Bool, true, fals
 use Rattle.std.proofs.lemmas.Bool.{lt-leb}
 use Rattle.std.proofs.lemmas.List.{length-map, map-append}
 use Rattle.std.specs.Str.{bytes_eq}
-use Rattle.obs_case.specs.Adds.{Refuses, node_fault, node_of, with_branch, with_node}
+use Rattle.obs_case.specs.Adds.{with_branch, with_node}
+use Rattle.obs_case.specs.inner.Adds.{Refuses, node_fault, node_of}
 use Rattle.obs_case.specs.Adds as case
 use Rattle.obs_case.specs.Tables.{Tables, has_name, node_names, place_of, position_of}
 use Rattle.obs_case.specs.declared.rows.Branch.{Branch}
@@ -21,7 +22,7 @@ use Rattle.obs_matpower.specs.declared.stop.Stop.TheVariants.{Fault}
 use Rattle.obs_matpower.specs.declared.stop.Stop.TheVariants as stop
 use Rattle.obs_matpower.specs.Fields.{is_isolated, is_short, is_source, number_in, type_in}
 use Rattle.obs_matpower.specs.Read.{BusRow, branch_between, branch_of, buses_of, isolated_of, read_bus, with_status}
-use Rattle.obs_matpower.specs.Reading.{Answers, AreBuses, held_branches, held_buses, stop_of}
+use Rattle.obs_matpower.specs.inner.Reading.{Answers, AreBuses, held_branches, held_buses, stop_of}
 use Rattle.obs_matpower.proofs.NumberLemmas.{number_in-lt}
 
 -- an answer for a cause that was met

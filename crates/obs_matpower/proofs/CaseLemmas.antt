@@ -9,8 +9,9 @@ use Rattle.obs_case_csv.proofs.AfterLemmas.{fault_where_none, given_valid, table
 use Rattle.obs_case_csv.proofs.LimitLemmas.{tables_after-limit}
 use Rattle.obs_matpower.specs.declared.fault.MatFault.{MatFault}
 use Rattle.obs_matpower.specs.declared.part.MatTable.TheVariants as table
-use Rattle.obs_matpower.specs.Case.{IsCase, IsFile}
-use Rattle.obs_matpower.specs.Laws.{CaseIsRead, CasesAreValid, CasesHaveLimit, FaultWhereNoCase}
+use Rattle.obs_matpower.specs.inner.Case.{IsCase, IsFile}
+use Rattle.obs_matpower.specs.Laws.{CasesAreValid, CasesHaveLimit}
+use Rattle.obs_matpower.specs.inner.Laws.{CaseIsRead, FaultWhereNoCase}
 use Rattle.obs_matpower.specs.Read.{as_end, case_within, mat_within, with_tables}
 use Rattle.obs_matpower.specs.Whole.{table_rows}
 use Rattle.obs_matpower.proofs.LawLemmas.{branches_read, buses_read, file_is, file_read}

@@ -1,15 +1,17 @@
 -- How reading a file with its tables ends.
 use Rattle.std.proofs.Common.{◌≡◌, ◌∙◌, ap, sym, ℕ, List, Option, Ok, Err}
 use Rattle.obs_case.specs.Tables.{Tables}
-use Rattle.obs_case_csv.specs.Read.{EndsAll, tables_after}
+use Rattle.obs_case_csv.specs.Read.{tables_after}
+use Rattle.obs_case_csv.specs.inner.Read.{EndsAll}
 use Rattle.obs_case_csv.specs.declared.faults.TableEnd.{TableEnd}
 use Rattle.obs_case_csv.specs.declared.faults.TableEnd.TheVariants as table
 use Rattle.obs_matpower.specs.declared.fault.MatEnd.{MatEnd}
 use Rattle.obs_matpower.specs.declared.stop.Stop.{Stop}
 use Rattle.obs_matpower.specs.declared.stop.Stop.TheVariants as stop
-use Rattle.obs_matpower.specs.Ends.{IsEndOfStop, IsEndOfTable}
-use Rattle.obs_matpower.specs.Read.{EndsCase, as_end, case_within, mat_within, with_tables}
-use Rattle.obs_matpower.specs.Reading.{Answers}
+use Rattle.obs_matpower.specs.inner.Ends.{IsEndOfStop, IsEndOfTable}
+use Rattle.obs_matpower.specs.Read.{as_end, case_within, mat_within, with_tables}
+use Rattle.obs_matpower.specs.inner.Read.{EndsCase}
+use Rattle.obs_matpower.specs.inner.Reading.{Answers}
 
 -- a file that is read: its nodes and branches
 abbrev pub IsRead : ℕ → List ℕ → Tables → Type 0

@@ -20,8 +20,9 @@ use Rattle.obs_matpower.specs.declared.stop.Stop.{Stop}
 use Rattle.obs_matpower.specs.declared.stop.Stop.TheVariants.{Fault, NoMemory}
 use Rattle.obs_matpower.specs.Lines.{closes, is_closing, is_opening, opens}
 use Rattle.obs_matpower.specs.Read.{BusRow, buses_of, mat_within, read_branch, read_bus, read_table}
-use Rattle.obs_matpower.specs.Reading.{Answers, AreBuses, held_branches, read_text}
-use Rattle.obs_matpower.specs.Table.{after_opening, end_of, from_first, is_there, line_of, text_of, until_closing}
+use Rattle.obs_matpower.specs.inner.Reading.{Answers, AreBuses, held_branches, read_text}
+use Rattle.obs_matpower.specs.Table.{after_opening, end_of, from_first, is_there, line_of}
+use Rattle.obs_matpower.specs.inner.Table.{text_of, until_closing}
 use Rattle.obs_matpower.specs.Whole.{table_rows}
 use Rattle.obs_matpower.proofs.RowReads.{read_bus-good}
 use Rattle.obs_matpower.proofs.WholeLemmas.{table_rows-are}

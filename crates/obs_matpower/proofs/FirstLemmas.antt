@@ -8,9 +8,9 @@ use Rattle.obs_matpower.specs.declared.fault.MatFault.{MatFault}
 use Rattle.obs_matpower.specs.declared.fault.MatFault.TheVariants.{NoBusTable, BusTableOpen, NoBranchTable, BranchTableOpen, BadBusNumber, BadType, BusTwice, UnknownBus, TooMany, ShortRow, BadStatus}
 use Rattle.obs_matpower.specs.declared.part.MatTable.{MatTable}
 use Rattle.obs_matpower.specs.declared.part.MatTable.TheVariants as table
-use Rattle.obs_matpower.specs.Case.{AreAllBranches, AreAllBuses}
-use Rattle.obs_matpower.specs.IsFault.{BranchRowHas, BranchTableHas, BusRowHas, BusTableHas, IsBranchFault, IsFault, IsNotAfter}
-use Rattle.obs_matpower.specs.Laws.{FirstFaultOfFile}
+use Rattle.obs_matpower.specs.inner.Case.{AreAllBranches, AreAllBuses}
+use Rattle.obs_matpower.specs.inner.IsFault.{BranchRowHas, BranchTableHas, BusRowHas, BusTableHas, IsBranchFault, IsFault, IsNotAfter}
+use Rattle.obs_matpower.specs.inner.Laws.{FirstFaultOfFile}
 use Rattle.obs_matpower.specs.Read.{BusRow, buses_of, mat_within, read_branch, read_bus, read_table}
 use Rattle.obs_matpower.specs.Table.{end_of, is_ended, is_there, left_open, missing}
 use Rattle.obs_matpower.specs.Whole.{table_rows}

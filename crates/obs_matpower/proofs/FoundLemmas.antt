@@ -7,13 +7,15 @@ use Rattle.std.proofs.lemmas.List.{append_cancel_left, drop_all, length-drop, ta
 use Rattle.std.proofs.lemmas.List.Folds.{concat-append, list_any-append}
 use Rattle.std.specs.List.{after_first, before_first, concat, list_any, position_or_len}
 use Rattle.std.specs.Str.Lines.{strip_carriage_return}
-use Rattle.obs_text.specs.Lines.{after_line, content, ended_lines, is_feed, lines_of}
+use Rattle.obs_text.specs.Lines.{content, ended_lines, is_feed, lines_of}
+use Rattle.obs_text.specs.inner.Lines.{after_line}
 use Rattle.obs_text.proofs.LineLaws.{joined}
 use Rattle.obs_case.proofs.NameLemmas.{place-absent, place-there}
 use Rattle.obs_bus_branch.proofs.SearchLemmas.{IsNextLine, Searched, found, next_line, passed_more}
 use Rattle.obs_matpower.specs.declared.part.MatTable.{MatTable}
 use Rattle.obs_matpower.specs.Lines.{closes, is_closing, is_opening, is_percent, opens}
-use Rattle.obs_matpower.specs.Table.{IsFound, from_first, is_there, text_of, until_closing}
+use Rattle.obs_matpower.specs.Table.{from_first, is_there}
+use Rattle.obs_matpower.specs.inner.Table.{IsFound, text_of, until_closing}
 
 module _ (p : List ℕ → Bool) where
   -- what stands before the line and from it on are the bytes

@@ -11,10 +11,10 @@ use Rattle.obs_bus_branch.proofs.RowsRead.{are-read_rows, read_rows-are, read_ro
 use Rattle.obs_matpower.specs.declared.fault.MatFault.{MatFault}
 use Rattle.obs_matpower.specs.declared.part.MatTable.{MatTable}
 use Rattle.obs_matpower.specs.declared.part.MatTable.TheVariants as table
-use Rattle.obs_matpower.specs.Case.{AreAllBranches, AreAllBuses, IsBranchRow, IsBusRow, IsFile, isolated_at}
-use Rattle.obs_matpower.specs.Laws.{FileIsRead}
+use Rattle.obs_matpower.specs.inner.Case.{AreAllBranches, AreAllBuses, IsBranchRow, IsBusRow, IsFile, isolated_at}
+use Rattle.obs_matpower.specs.inner.Laws.{FileIsRead}
 use Rattle.obs_matpower.specs.Read.{BusRow, buses_of, is_cut_off, mat_within, read_branch, read_bus, read_table}
-use Rattle.obs_matpower.specs.Reading.{AreBuses}
+use Rattle.obs_matpower.specs.inner.Reading.{AreBuses}
 use Rattle.obs_matpower.specs.Table.{end_of}
 use Rattle.obs_matpower.specs.Whole.{table_rows}
 use Rattle.obs_matpower.proofs.FileLemmas.{after_buses, table_read}

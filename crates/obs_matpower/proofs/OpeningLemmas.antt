@@ -13,7 +13,7 @@ use Rattle.std.specs.Option.{option_and_then}
 use Rattle.obs_text.specs.Lines.{content}
 use Rattle.obs_matpower.specs.declared.part.MatTable.{MatTable}
 use Rattle.obs_matpower.specs.declared.part.MatTable.TheVariants.{Bus, Branch}
-use Rattle.obs_matpower.specs.Laws.{AreGaps, IsAssignedTo, IsOpening, OpeningsAreAssignments}
+use Rattle.obs_matpower.specs.inner.Laws.{AreGaps, IsAssignedTo, IsOpening, OpeningsAreAssignments}
 use Rattle.obs_matpower.specs.Lines.{has_opening, is_gap, is_opening, opens, past, table_name, without_comment, without_gaps}
 use Rattle.obs_matpower.proofs.WholeLemmas.{first-code, in_line}
 

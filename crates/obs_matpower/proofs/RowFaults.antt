@@ -8,7 +8,7 @@ use Rattle.obs_matpower.specs.declared.fault.MatFault.{MatFault}
 use Rattle.obs_matpower.specs.declared.fault.MatFault.TheVariants.{NoBusTable, BusTableOpen, NoBranchTable, BranchTableOpen, BadBusNumber, BadType, BusTwice, UnknownBus, TooMany, ShortRow, BadStatus}
 use Rattle.obs_matpower.specs.declared.fields.BusType.{BusType}
 use Rattle.obs_matpower.specs.Fields.{is_short, number_in, status_in, type_in}
-use Rattle.obs_matpower.specs.IsFault.{BranchRowHas, BusRowHas, IsNotAfter, IsWhole}
+use Rattle.obs_matpower.specs.inner.IsFault.{BranchRowHas, BusRowHas, IsNotAfter, IsWhole}
 use Rattle.obs_matpower.specs.Read.{BusRow, branch_of, bus_of, buses_of, read_branch, read_bus, with_status}
 
 -- ---- bus rows

@@ -3,7 +3,8 @@ use Rattle.std.proofs.Common.{◌≡◌, ℕ, ◌+◌, ◌<◌, Bool, false, ◌
 use Rattle.std.proofs.lemmas.Bool.{and_parts, cases_Bool, leb-false}
 use Rattle.std.proofs.lemmas.List.{map-append}
 use Rattle.obs_case.specs.declared.rows.Branch.{Branch}
-use Rattle.obs_bus_branch.specs.Buses.{AreNamed, branch_name, has_bus}
+use Rattle.obs_bus_branch.specs.Buses.{branch_name, has_bus}
+use Rattle.obs_bus_branch.specs.inner.Buses.{AreNamed}
 use Rattle.obs_bus_branch.specs.Rows.{at_end, on_ok, read_rows}
 use Rattle.obs_bus_branch.proofs.NumberLemmas.{AreBuses-push, AreNamed-push}
 use Rattle.obs_bus_branch.proofs.RowsRead.{ReadSoFar}
@@ -11,11 +12,11 @@ use Rattle.obs_matpower.specs.declared.fault.MatFault.{MatFault}
 use Rattle.obs_matpower.specs.declared.stop.Stop.{Stop}
 use Rattle.obs_matpower.specs.declared.stop.Stop.TheVariants.{Fault, NoMemory}
 use Rattle.obs_matpower.specs.declared.fields.BusType.{BusType}
-use Rattle.obs_matpower.specs.Case.{IsBranchRow, IsBusRow}
+use Rattle.obs_matpower.specs.inner.Case.{IsBranchRow, IsBusRow}
 use Rattle.obs_matpower.specs.Fields.{is_short, is_source, number_in, status_in, type_in}
 use Rattle.obs_matpower.specs.Read.{BusRow, branch_between, branch_of, bus_of, buses_of, read_branch, read_bus}
-use Rattle.obs_matpower.specs.Reading.{Answers, AreBuses, read_text}
-use Rattle.obs_matpower.specs.Rows.{rows_of}
+use Rattle.obs_matpower.specs.inner.Reading.{Answers, AreBuses, read_text}
+use Rattle.obs_matpower.specs.inner.Rows.{rows_of}
 use Rattle.obs_matpower.proofs.NumberLemmas.{number_in-lt}
 
 -- ---- bus rows

@@ -1,9 +1,10 @@
 -- One step over the rows of a text.
 use Rattle.std.proofs.Common.{◌≡◌, ℕ, ◌+◌, Bool, true, false, List, [], ◌∷◌, ◌++◌, sym, ap, ◌∙◌}
 use Rattle.std.specs.List.{after_first, before_first}
-use Rattle.obs_text.specs.Lines.{after_line}
+use Rattle.obs_text.specs.inner.Lines.{after_line}
 use Rattle.obs_matpower.specs.Lines.{is_semicolon}
-use Rattle.obs_matpower.specs.Rows.{first_code, has_value, line_rows, rows_from, rows_of}
+use Rattle.obs_matpower.specs.Rows.{has_value, line_rows}
+use Rattle.obs_matpower.specs.inner.Rows.{first_code, rows_from, rows_of}
 use Rattle.obs_matpower.proofs.SplitLemmas.{line_rows-nil, line_rows_first, line_rows_skip}
 use Rattle.obs_matpower.proofs.TextLemmas.{rows_of-first}
 

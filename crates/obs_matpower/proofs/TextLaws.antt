@@ -8,13 +8,15 @@ use Rattle.std.proofs.lemmas.List.Folds.{list_any-append}
 use Rattle.std.proofs.lemmas.List.Sums.{passes_at_first, split_at_first}
 use Rattle.std.specs.List.{after_first, before_first, concat, list_any, position_or_len}
 use Rattle.std.specs.Str.Lines.{strip_carriage_return}
-use Rattle.obs_text.specs.Laws.{AreLines, HasNoFeed, IsEnded}
+use Rattle.obs_text.specs.Laws.{HasNoFeed}
+use Rattle.obs_text.specs.inner.Laws.{AreLines, IsEnded}
 use Rattle.obs_text.specs.Lines.{content, ended_lines, is_feed}
 use Rattle.obs_text.proofs.LineLaws.{alone, are_lines, ended_first, joined, unended_last}
 use Rattle.obs_case.proofs.NameLemmas.{place-there}
-use Rattle.obs_matpower.specs.Laws.{EndsAt, IsAssignedTo, TextStandsBetween}
+use Rattle.obs_matpower.specs.inner.Laws.{EndsAt, IsAssignedTo, TextStandsBetween}
 use Rattle.obs_matpower.specs.Lines.{closes, is_closing, is_opening, is_percent, opens, without_comment}
-use Rattle.obs_matpower.specs.Table.{after_opening, from_first, is_ended, until_closing}
+use Rattle.obs_matpower.specs.Table.{after_opening, from_first, is_ended}
+use Rattle.obs_matpower.specs.inner.Table.{until_closing}
 use Rattle.obs_matpower.proofs.FoundLemmas.{before-longer, has_closing, parts_are, until_none}
 use Rattle.obs_matpower.proofs.OpeningLemmas.{opened}
 use Rattle.obs_matpower.proofs.WholeLemmas.{before-all, no_comment_in_cut, no_feed_in_cut, none_before, none_in_front, strip_front}

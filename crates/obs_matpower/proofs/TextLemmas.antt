@@ -5,10 +5,12 @@ use Rattle.std.proofs.lemmas.Bool.{cases_Bool}
 use Rattle.std.proofs.lemmas.List.{drop_all, length-drop, length-take}
 use Rattle.std.specs.List.{before_first, list_any, position_or_len}
 use Rattle.std.specs.Str.Lines.{strip_carriage_return}
-use Rattle.obs_text.specs.Lines.{after_line, content, ended_lines, is_feed, lines_of}
+use Rattle.obs_text.specs.Lines.{content, ended_lines, is_feed, lines_of}
+use Rattle.obs_text.specs.inner.Lines.{after_line}
 use Rattle.obs_text.proofs.LineLemmas.{ended_lines-first, feed_at, lines_of-first}
 use Rattle.obs_matpower.specs.Lines.{is_percent, without_comment}
-use Rattle.obs_matpower.specs.Rows.{code_of, first_code, line_rows, rows_from, rows_of}
+use Rattle.obs_matpower.specs.Rows.{line_rows}
+use Rattle.obs_matpower.specs.inner.Rows.{code_of, first_code, rows_from, rows_of}
 use Rattle.obs_matpower.proofs.SplitLemmas.{line_rows-nil}
 
 -- the first line has a line feed exactly where the bytes have one

@@ -8,14 +8,17 @@ use Rattle.std.proofs.lemmas.List.Folds.{list_any-append}
 use Rattle.std.proofs.Math.Bool.{and-false}
 use Rattle.std.specs.List.{after_first, before_first, concat, list_any, position_or_len}
 use Rattle.std.specs.Str.Lines.{strip_carriage_return}
-use Rattle.obs_text.specs.Lines.{after_line, content, ended_lines, is_feed}
+use Rattle.obs_text.specs.Lines.{content, ended_lines, is_feed}
+use Rattle.obs_text.specs.inner.Lines.{after_line}
 use Rattle.obs_text.proofs.LineLemmas.{ended_lines-first, feed_at}
 use Rattle.obs_case.proofs.NameLemmas.{place-absent, place-there}
 use Rattle.obs_matpower.specs.declared.fault.MatFault.{MatFault}
 use Rattle.obs_matpower.specs.declared.part.MatTable.{MatTable}
 use Rattle.obs_matpower.specs.Lines.{closes, is_closing, is_opening, is_percent, opens, without_comment}
-use Rattle.obs_matpower.specs.Rows.{first_code, line_rows, rows_from, rows_of}
-use Rattle.obs_matpower.specs.Table.{after_opening, end_of, from_first, is_ended, is_there, line_of, missing, left_open, text_of, until_closing}
+use Rattle.obs_matpower.specs.Rows.{line_rows}
+use Rattle.obs_matpower.specs.inner.Rows.{first_code, rows_from, rows_of}
+use Rattle.obs_matpower.specs.Table.{after_opening, end_of, from_first, is_ended, is_there, line_of, missing, left_open}
+use Rattle.obs_matpower.specs.inner.Table.{text_of, until_closing}
 use Rattle.obs_matpower.specs.Whole.{numbered_rows, table_lines, table_rows}
 use Rattle.obs_matpower.proofs.FoundLemmas.{any_in_front, before-longer}
 use Rattle.obs_matpower.proofs.TextLemmas.{after_line-none, feed_in_first, no_feed, first_code-content, first_code-whole, rows_of-first}

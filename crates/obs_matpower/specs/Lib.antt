@@ -1,13 +1,9 @@
-pub mod Case
-pub mod Ends
 pub mod Faults
 pub mod Fields
-pub mod IsFault
 pub mod Laws
-pub mod Left
 pub mod Lines
 pub mod Read
-pub mod Reading
 pub mod Rows
 pub mod Table
 pub mod Whole
+pub mod inner

@@ -1,13 +1,13 @@
 -- The buses and branches that a file's bytes are, or its first fault; and the case that it is with its tables.
-use Rattle.std.specs.Prelude.{◌≡◌, ℕ, ◌+◌, ◌&&◌, Bool, false, not, nat_le, List, [], length, map, get_or, Option, None, Some, Result, Ok, Err, if◌then◌else◌}
-use Rattle.obs_case.specs.Tables.{Tables, usual_rows}
+use Rattle.std.specs.Prelude.{ℕ, ◌+◌, ◌&&◌, Bool, false, not, nat_le, List, [], length, map, get_or, Option, None, Some, Result, Ok, Err, if◌then◌else◌}
+use Rattle.obs_case.specs.Tables.{Tables}
 use Rattle.obs_case.specs.declared.rows.Branch.{Branch}
 use Rattle.obs_case_csv.specs.declared.faults.TableFault.{TableFault}
 use Rattle.obs_case_csv.specs.Read.{tables_after}
 use Rattle.obs_bus_branch.specs.Buses.{Bus, branch_name, has_bus, place_of_bus, tables_of_rows}
 use Rattle.obs_bus_branch.specs.Rows.{at_end, on_ok, read_rows}
 use Rattle.obs_matpower.specs.declared.fault.MatEnd.{MatEnd}
-use Rattle.obs_matpower.specs.declared.fault.MatEnd.TheVariants.{Mat, Table, NoMemory}
+use Rattle.obs_matpower.specs.declared.fault.MatEnd.TheVariants.{Mat, Table}
 use Rattle.obs_matpower.specs.declared.fault.MatFault.{MatFault}
 use Rattle.obs_matpower.specs.declared.fault.MatFault.TheVariants.{BadBusNumber, BadType, BusTwice, UnknownBus, TooMany, ShortRow, BadStatus}
 use Rattle.obs_matpower.specs.declared.fields.BusType.{BusType}
@@ -88,11 +88,7 @@ mat_within most bytes =
     on_ok (read_table (read_branch most rows) table.Branch bytes) (λ branches.
     Ok (tables_of_rows most (buses_of rows) branches)))
 
--- the same under the usual limit
-abbrev pub mat_of : List ℕ → Result Tables MatFault
-mat_of bytes = mat_within usual_rows bytes
-
--- the same answer, with a table's fault as an end
+-- an answer of tables, with a table's fault as an end
 abbrev pub as_end : Result Tables TableFault → Result Tables MatEnd
 as_end (Ok tables) = Ok tables
 as_end (Err fault) = Err (Table fault)
@@ -106,13 +102,3 @@ with_tables meters candidates (Ok tables) = as_end (tables_after meters candidat
 -- the tables
 abbrev pub case_within : ℕ → List ℕ → List ℕ → Option (List ℕ) → Result Tables MatEnd
 case_within most matpower meters candidates = with_tables meters candidates (mat_within most matpower)
-
--- the same under the usual limit
-abbrev pub case_in : List ℕ → List ℕ → Option (List ℕ) → Result Tables MatEnd
-case_in matpower meters candidates = case_within usual_rows matpower meters candidates
-
--- an answer that ends the reading: want of memory, or this fault
-abbrev pub EndsCase : Result Tables MatEnd → MatEnd → Type 0
-EndsCase stated (Mat fault) = stated ≡ Err (Mat fault)
-EndsCase stated (Table fault) = stated ≡ Err (Table fault)
-EndsCase stated NoMemory = Unit {0}

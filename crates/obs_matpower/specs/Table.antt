@@ -1,14 +1,12 @@
 -- Where a file has a table.
-use Rattle.std.specs.Prelude.{◌≡◌, ℕ, ◌+◌, Bool, true, not, List, [], ◌∷◌, drop, Option, None, Some, if◌then◌else◌}
-use Rattle.std.specs.List.{after_first, before_first, concat, list_any, position_or_len}
+use Rattle.std.specs.Prelude.{ℕ, ◌+◌, Bool, not, List, drop, Option, None, Some, if◌then◌else◌}
+use Rattle.std.specs.List.{after_first, concat, list_any, position_or_len}
 use Rattle.obs_text.specs.Lines.{ended_lines}
 use Rattle.obs_matpower.specs.declared.fault.MatFault.{MatFault}
 use Rattle.obs_matpower.specs.declared.fault.MatFault.TheVariants.{NoBusTable, BusTableOpen, NoBranchTable, BranchTableOpen}
-use Rattle.obs_matpower.specs.declared.find.Sought.{Sought}
-use Rattle.obs_matpower.specs.declared.find.Sought.TheVariants.{Opening, Closing}
 use Rattle.obs_matpower.specs.declared.part.MatTable.{MatTable}
 use Rattle.obs_matpower.specs.declared.part.MatTable.TheVariants.{Bus, Branch}
-use Rattle.obs_matpower.specs.Lines.{closes, is_closing, is_opening, opens}
+use Rattle.obs_matpower.specs.Lines.{closes, is_opening, opens}
 
 -- the lines from the first that passes a test on
 abbrev pub from_first : (List ℕ → Bool) → List (List ℕ) → List (List ℕ)
@@ -25,15 +23,6 @@ after_opening table bytes = after_first is_opening (concat (from_first (opens ta
 -- whether a `]` that is in no comment follows the start of the table
 abbrev pub is_ended : MatTable → List ℕ → Bool
 is_ended table bytes = list_any closes (ended_lines (after_opening table bytes))
-
--- the lines up to the first `]` that is in no comment, or all
-abbrev pub until_closing : List (List ℕ) → List (List ℕ)
-until_closing [] = []
-until_closing (line ∷ lines) = if closes line then before_first is_closing line ∷ [] else line ∷ until_closing lines
-
--- the text of a table: nothing where there is no table, and all that follows its start where it isn't ended
-abbrev pub text_of : MatTable → List ℕ → List ℕ
-text_of table bytes = concat (until_closing (ended_lines (after_opening table bytes)))
 
 -- the number, from 1, of the line with the `[`, or 0 where there is none
 abbrev pub line_of : MatTable → List ℕ → ℕ
@@ -54,15 +43,3 @@ end_of table bytes =
     if not (is_there table bytes) then Some (missing table)
     else if not (is_ended table bytes) then Some (left_open table)
     else None
-
--- what a line is looked for by
-abbrev pub is_sought : Sought → List ℕ → Bool
-is_sought (Opening table) = opens table
-is_sought Closing = closes
-
--- the first line of some bytes that passes a test: what stands before it, the bytes from it on, and its number from 1
-pub record IsFound (p : List ℕ → Bool) (bytes front rest : List ℕ) (number : ℕ) : Type 0 where
-  pub some : list_any p (ended_lines bytes) ≡ true
-  pub before : front ≡ concat (before_first p (ended_lines bytes))
-  pub from : rest ≡ concat (from_first p (ended_lines bytes))
-  pub at : number ≡ position_or_len p (ended_lines bytes) + 1

@@ -3,9 +3,9 @@ ghost use Rattle.std.specs.Prelude.{ℕ, ◌≡◌, ◌≤◌, ◌<◌, ◌+◌,
 ghost use Rattle.obs_text.specs.Limits.{most_file_bytes};
 ghost use Rattle.obs_case.specs.Tables.{no_rows_within};
 ghost use Rattle.obs_case.specs.declared.rows.Branch.{Branch};
-ghost use Rattle.obs_bus_branch.specs.Buses.{AreNamed};
+ghost use Rattle.obs_bus_branch.specs.inner.Buses.{AreNamed};
 ghost use Rattle.obs_matpower.specs.Read.{BusRow, branch_of, buses_of, isolated_of, read_branch, read_bus};
-ghost use Rattle.obs_matpower.specs.Reading.{Answers, AreBuses, held_branches, held_buses, read_text, stop_of};
+ghost use Rattle.obs_matpower.specs.inner.Reading.{Answers, AreBuses, held_branches, held_buses, read_text, stop_of};
 
 use crate::fault::MatFault;
 use crate::fields::{is_short, number_in, status_in, type_in};

@@ -1,7 +1,8 @@
 // Why bytes are no case.
 ghost use Rattle.std.specs.Prelude.{◌≡◌, option_map};
-ghost use Rattle.obs_text.specs.Faults.{fault_of};
-ghost use Rattle.obs_matpower.specs.Faults.{IsOfFile, mat_code, mat_end_fault, mat_line, mat_name};
+ghost use Rattle.obs_text.specs.inner.Faults.{fault_of};
+ghost use Rattle.obs_matpower.specs.Faults.{mat_code, mat_line, mat_name};
+ghost use Rattle.obs_matpower.specs.inner.Faults.{IsOfFile, mat_end_fault};
 
 use obs_case_csv::TableFault;
 use obs_text::InputFault;

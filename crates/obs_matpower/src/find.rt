@@ -4,7 +4,7 @@ ghost use Rattle.std.specs.List.{list_any};
 ghost use Rattle.obs_text.specs.Lines.{ended_lines};
 ghost use Rattle.obs_text.specs.Limits.{most_file_bytes};
 ghost use Rattle.obs_matpower.specs.Lines.{has_opening, is_closing, table_name, without_comment};
-ghost use Rattle.obs_matpower.specs.Table.{IsFound, is_sought};
+ghost use Rattle.obs_matpower.specs.inner.Table.{IsFound, is_sought};
 
 use crate::cut::{past, without_comment};
 use crate::part::MatTable;

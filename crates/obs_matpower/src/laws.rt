@@ -1,5 +1,6 @@
 //! What bytes are, and what is read from them.
-ghost use Rattle.obs_matpower.specs.Laws.{CaseIsRead, CasesAreValid, CasesHaveLimit, FaultWhereNoCase, FileIsRead, FirstFaultOfFile, OpeningsAreAssignments, RowsAreOfLines, TextStandsBetween};
+ghost use Rattle.obs_matpower.specs.Laws.{CasesAreValid, CasesHaveLimit};
+ghost use Rattle.obs_matpower.specs.inner.Laws.{CaseIsRead, FaultWhereNoCase, FileIsRead, FirstFaultOfFile, OpeningsAreAssignments, RowsAreOfLines, TextStandsBetween};
 
 /// A line opens a `table` exactly where, before its comment, it begins with the name of the table,
 /// `=` and `[`, with nothing but blanks and tabs before each.

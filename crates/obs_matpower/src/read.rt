@@ -1,8 +1,9 @@
 // Cases from bytes.
 ghost use Rattle.std.specs.Prelude.{◌≡◌, ◌≤◌, Ok, length, option_map, IfErr, IfOk, OnOk};
 ghost use Rattle.obs_case.specs.Tables.{most_rows, no_rows_within};
-ghost use Rattle.obs_matpower.specs.Read.{EndsCase, case_in, case_within, mat_within};
-ghost use Rattle.obs_matpower.specs.Reading.{Answers};
+ghost use Rattle.obs_matpower.specs.Read.{case_within, mat_within};
+ghost use Rattle.obs_matpower.specs.inner.Read.{EndsCase, case_in};
+ghost use Rattle.obs_matpower.specs.inner.Reading.{Answers};
 ghost use Rattle.obs_text.specs.Limits.{most_file_bytes};
 
 use crate::add::{add_branches, add_buses};

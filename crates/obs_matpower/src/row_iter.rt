@@ -1,7 +1,8 @@
 // The rows of a table.
 ghost use Rattle.std.specs.Prelude.{◌≡◌, ◌<◌, ◌+◌, ◌^◌, length};
-ghost use Rattle.obs_text.specs.Lines.{after_line};
-ghost use Rattle.obs_matpower.specs.Rows.{first_code, has_value};
+ghost use Rattle.obs_text.specs.inner.Lines.{after_line};
+ghost use Rattle.obs_matpower.specs.Rows.{has_value};
+ghost use Rattle.obs_matpower.specs.inner.Rows.{first_code};
 
 use crate::cut::{cut_at, without_comment};
 use obs_text::lines;
@@ -58,7 +59,7 @@ pub(crate) fn next_line(text: &[u8], ended: bool) -> (&[u8], &[u8])
 
 impl<'a> Iterator for Rows<'a> {
     ghost use Rattle.std.specs.Iterator.{YieldsFirstBy, item_count};
-    ghost use Rattle.obs_matpower.specs.Left.{row_of, rows_left};
+    ghost use Rattle.obs_matpower.specs.inner.Left.{row_of, rows_left};
 
     type Item = MatRow<'a>;
 

@@ -1,8 +1,8 @@
 // The rows of a table, from the first on.
 ghost use Rattle.std.specs.Prelude.{◌≡◌, ◌≤◌, length, is_none};
 ghost use Rattle.obs_text.specs.Limits.{most_file_bytes};
-ghost use Rattle.obs_matpower.specs.Left.{rows_left};
-ghost use Rattle.obs_matpower.specs.Rows.{rows_of};
+ghost use Rattle.obs_matpower.specs.inner.Left.{rows_left};
+ghost use Rattle.obs_matpower.specs.inner.Rows.{rows_of};
 
 use crate::part::MatPart;
 use crate::row_iter::{Rows, next_line};

@@ -1,7 +1,8 @@
 // The tables of a file.
 ghost use Rattle.std.specs.Prelude.{◌≡◌, ◌≤◌, length};
 ghost use Rattle.obs_text.specs.Limits.{most_file_bytes};
-ghost use Rattle.obs_matpower.specs.Table.{end_of, left_open, line_of, missing, text_of};
+ghost use Rattle.obs_matpower.specs.Table.{end_of, left_open, line_of, missing};
+ghost use Rattle.obs_matpower.specs.inner.Table.{text_of};
 
 use crate::cut::cut_at;
 use crate::fault::MatFault;

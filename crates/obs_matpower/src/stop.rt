@@ -1,5 +1,5 @@
 // Why reading stops.
-ghost use Rattle.obs_matpower.specs.Ends.{IsEndOfStop, IsEndOfTable};
+ghost use Rattle.obs_matpower.specs.inner.Ends.{IsEndOfStop, IsEndOfTable};
 
 use crate::fault::{MatEnd, MatFault};
 use obs_case_csv::TableEnd;

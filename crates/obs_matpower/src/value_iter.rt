@@ -25,7 +25,7 @@ fn cut_value(bytes: &[u8]) -> (&[u8], &[u8])
 
 impl<'a> Iterator for Values<'a> {
     ghost use Rattle.std.specs.Iterator.{YieldsFirstRef, item_count};
-    ghost use Rattle.obs_matpower.specs.Left.{values_left};
+    ghost use Rattle.obs_matpower.specs.inner.Left.{values_left};
 
     type Item = &'a [u8];
 

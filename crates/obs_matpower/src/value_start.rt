@@ -1,6 +1,6 @@
 // The values of a row, from the first on.
 ghost use Rattle.std.specs.Prelude.{◌≡◌};
-ghost use Rattle.obs_matpower.specs.Left.{values_left};
+ghost use Rattle.obs_matpower.specs.inner.Left.{values_left};
 ghost use Rattle.obs_matpower.specs.Rows.{values_of};
 
 use crate::value_iter::Values;

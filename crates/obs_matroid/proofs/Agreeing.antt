@@ -2,7 +2,8 @@
 use Rattle.std.proofs.Common.{◌≡◌, ℕ, List, sym, subst, Bool}
 use Rattle.obs_matroid.specs.Lists.{In}
 use Rattle.obs_matroid.specs.Matroid.{Matroid}
-use Rattle.obs_matroid.specs.Assignments.{Pair, IsAssignment, IsRho}
+use Rattle.obs_matroid.specs.Assignments.{Pair, IsAssignment}
+use Rattle.obs_matroid.specs.inner.Assignments.{IsRho}
 use Rattle.obs_matroid.specs.Islands.{IsIsland, IsSpanned}
 use Rattle.obs_matroid.proofs.Lists.{In_same}
 use Rattle.obs_matroid.proofs.Pairs.{In-items_from}

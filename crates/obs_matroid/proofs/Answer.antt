@@ -3,10 +3,13 @@ use Rattle.std.proofs.Common.{◌≡◌, ℕ, suc, ◌+◌, ◌≤◌, ◌<◌, 
 use Rattle.std.specs.List.{sum_by}
 use Rattle.std.proofs.lemmas.Bool.{cases_Bool, cases_eq, lt-ltb, le-ltb, cases_lt, eqb-true, ltb-true}
 use Rattle.obs_matroid.specs.Lists.{In, IsDistinct}
-use Rattle.obs_matroid.specs.Matroid.{Matroid, IsMatroid}
-use Rattle.obs_matroid.specs.Assignments.{Pair, items, IsAssignment, IsRho}
-use Rattle.obs_matroid.specs.Closed.{IsGrown, none}
-use Rattle.obs_matroid.specs.Placement.{is_raising, answer_of, RunsThrough, Layer, RunOn, layers_sum, below, IsShown, Raises, IsAnswer, finished, chosen, passed, IsByPrice, IsApart}
+use Rattle.obs_matroid.specs.Matroid.{Matroid}
+use Rattle.obs_matroid.specs.inner.Matroid.{IsMatroid}
+use Rattle.obs_matroid.specs.Assignments.{Pair, items, IsAssignment}
+use Rattle.obs_matroid.specs.inner.Assignments.{IsRho}
+use Rattle.obs_matroid.specs.inner.Closed.{IsGrown, none}
+use Rattle.obs_matroid.specs.Placement.{is_raising, Layer, RunOn, layers_sum, below, IsShown}
+use Rattle.obs_matroid.specs.inner.Placement.{answer_of, RunsThrough, Raises, IsAnswer, finished, chosen, passed, IsByPrice, IsApart}
 use Rattle.obs_matroid.proofs.Lists.{clash, In_same, In-append_left, In-append_right, In-append_cases, cases_In, length-within, length-split}
 use Rattle.obs_matroid.proofs.Pairs.{In-items, In-items_from}
 use Rattle.obs_matroid.proofs.Bounds.{length-items}

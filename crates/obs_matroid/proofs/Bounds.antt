@@ -3,9 +3,12 @@ use Rattle.std.proofs.Common.{◌≡◌, ℕ, ◌+◌, ◌≤◌, List, length, 
 use Rattle.std.specs.List.{flat_map}
 use Rattle.std.proofs.lemmas.List.{length-map}
 use Rattle.obs_matroid.specs.Lists.{In}
-use Rattle.obs_matroid.specs.Matroid.{Matroid, IsMatroid}
-use Rattle.obs_matroid.specs.Assignments.{Pair, items, branches, part, IsAssignment}
-use Rattle.obs_matroid.specs.Bounds.{inside, outside, bound}
+use Rattle.obs_matroid.specs.Matroid.{Matroid}
+use Rattle.obs_matroid.specs.inner.Matroid.{IsMatroid}
+use Rattle.obs_matroid.specs.Assignments.{Pair, items, branches, IsAssignment}
+use Rattle.obs_matroid.specs.inner.Assignments.{part}
+use Rattle.obs_matroid.specs.Bounds.{inside, outside}
+use Rattle.obs_matroid.specs.inner.Bounds.{bound}
 use Rattle.obs_matroid.proofs.Lists.{In_same, In-filter, filter_same, In-flat_map, length-within, length-split}
 use Rattle.obs_matroid.proofs.Ranks.{rank-within, rank-independent}
 use Rattle.obs_matroid.proofs.Pairs.{In-items_from, In-branches_from, In-part_from, IsDistinct-part, independent_part}

@@ -3,10 +3,12 @@ use Rattle.std.proofs.Common.{◌≡◌, ℕ, ◌+◌, ◌≤◌, ◌<◌, List,
 use Rattle.std.specs.List.{sum_by}
 use Rattle.std.proofs.lemmas.Bool.{cases_Bool, cases_lt, lt-ltb, le-ltb, ltb-true, not-true}
 use Rattle.obs_matroid.specs.Lists.{In, IsDistinct}
-use Rattle.obs_matroid.specs.Matroid.{Matroid, IsMatroid}
-use Rattle.obs_matroid.specs.Assignments.{IsRho}
+use Rattle.obs_matroid.specs.Matroid.{Matroid}
+use Rattle.obs_matroid.specs.inner.Matroid.{IsMatroid}
+use Rattle.obs_matroid.specs.inner.Assignments.{IsRho}
 use Rattle.obs_matroid.specs.Values.{is_critical}
-use Rattle.obs_matroid.specs.Placement.{Layer, RunOn, RunsThrough, layers_sum, below, IsShown, IsAnswer, chosen, passed, finished, IsByPrice, IsApart, own_list, own_layer, own_layers}
+use Rattle.obs_matroid.specs.Placement.{Layer, RunOn, layers_sum, below, IsShown}
+use Rattle.obs_matroid.specs.inner.Placement.{RunsThrough, IsAnswer, chosen, passed, finished, IsByPrice, IsApart, own_list, own_layer, own_layers}
 use Rattle.obs_matroid.proofs.Lists.{clash, In-filter, In-filter_from, In-append_left, In-append_right, In-append_cases, IsDistinct-filter, IsDistinct-append}
 use Rattle.obs_matroid.proofs.Computed.{is_critical_is, noncritical_tight}
 use Rattle.obs_matroid.proofs.Answer.{answer_within, answer_cost, answer_cheapest, answer_lacks}

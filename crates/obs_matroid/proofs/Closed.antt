@@ -2,9 +2,11 @@
 use Rattle.std.proofs.Common.{◌≡◌, ℕ, suc, ◌≤◌, List, ◌∷◌, length, refl, sym, ap, ◌∙◌, inl, inr, Bool, true, false, not, ◌||◌, ◌&&◌, arith}
 use Rattle.std.proofs.lemmas.Bool.{cases_Bool, not-true, or_cases, or_left, or_right, or_parts, and_parts, and_from}
 use Rattle.obs_matroid.specs.Lists.{In, other_than}
-use Rattle.obs_matroid.specs.Matroid.{Matroid, IsMatroid}
-use Rattle.obs_matroid.specs.Assignments.{Pair, items, branches, part, IsAssignment}
-use Rattle.obs_matroid.specs.Closed.{IsClosed, HasFrozen, Extends, HoldsSources, IsLeastClosed}
+use Rattle.obs_matroid.specs.Matroid.{Matroid}
+use Rattle.obs_matroid.specs.inner.Matroid.{IsMatroid}
+use Rattle.obs_matroid.specs.Assignments.{Pair, items, branches, IsAssignment}
+use Rattle.obs_matroid.specs.inner.Assignments.{part}
+use Rattle.obs_matroid.specs.inner.Closed.{IsClosed, HasFrozen, Extends, HoldsSources, IsLeastClosed}
 use Rattle.obs_matroid.proofs.Lists.{clash, In_same, cases_In, length-within, other_true, other_ne}
 use Rattle.obs_matroid.proofs.Ranks.{rank-short}
 use Rattle.obs_matroid.proofs.Pairs.{In-items, In-items_from, In-branches, In-part, In-part_from, IsDistinct-part, items_within, same_pair, more_pairs}

@@ -4,7 +4,8 @@ use Rattle.std.proofs.lemmas.Bool.{cases_eq, eq-eqb, ne_eqb}
 use Rattle.obs_matroid.specs.Lists.{In, IsDistinct}
 use Rattle.obs_matroid.specs.Matroid.{Matroid}
 use Rattle.obs_matroid.specs.Assignments.{Pair, items, IsAssignment}
-use Rattle.obs_matroid.specs.First.{branch_at, IsBefore, IsNotAfter, IsFirst}
+use Rattle.obs_matroid.specs.First.{branch_at, IsBefore, IsNotAfter}
+use Rattle.obs_matroid.specs.inner.First.{IsFirst}
 use Rattle.obs_matroid.proofs.Lists.{In_same}
 use Rattle.obs_matroid.proofs.Pairs.{In-items}
 

@@ -3,12 +3,15 @@ use Rattle.std.proofs.Common.{◌≡◌, ℕ, ◌≤◌, List, [], ◌∷◌, �
 use Rattle.std.specs.List.{filter}
 use Rattle.std.proofs.lemmas.Bool.{cases_Bool, eqb-true, eq-eqb}
 use Rattle.obs_matroid.specs.Lists.{In, IsDistinct}
-use Rattle.obs_matroid.specs.Matroid.{Matroid, IsIndependent, IsMatroid}
-use Rattle.obs_matroid.specs.Assignments.{Pair, items, branches, part, IsAssignment}
-use Rattle.obs_matroid.specs.Bounds.{bound}
-use Rattle.obs_matroid.specs.Closed.{IsClosed, HoldsSources, none, every}
-use Rattle.obs_matroid.specs.Graphic.{IsJoining, graphic}
-use Rattle.obs_matroid.specs.Components.{IsSumOfKinds, is_of}
+use Rattle.obs_matroid.specs.Matroid.{Matroid, IsIndependent}
+use Rattle.obs_matroid.specs.inner.Matroid.{IsMatroid}
+use Rattle.obs_matroid.specs.Assignments.{Pair, items, branches, IsAssignment}
+use Rattle.obs_matroid.specs.inner.Assignments.{part}
+use Rattle.obs_matroid.specs.inner.Bounds.{bound}
+use Rattle.obs_matroid.specs.inner.Closed.{IsClosed, HoldsSources, none, every}
+use Rattle.obs_matroid.specs.Graphic.{graphic}
+use Rattle.obs_matroid.specs.inner.Graphic.{IsJoining}
+use Rattle.obs_matroid.specs.inner.Components.{IsSumOfKinds, is_of}
 use Rattle.obs_matroid.proofs.Lists.{In_same, In-append_cases, In-filter, In-filter_from, IsDistinct-filter, clash}
 use Rattle.obs_matroid.proofs.Spans.{spans_more}
 use Rattle.obs_matroid.proofs.Pairs.{In-items, In-items_from, In-branches, In-branches_from, In-part, In-part_from}

@@ -3,11 +3,14 @@ use Rattle.std.proofs.Common.{◌≡◌, ℕ, suc, ◌≤◌, ◌<◌, List, [],
 use Rattle.std.proofs.lemmas.Bool.{cases_Bool, cases_eq, cases_lt, cases_order, not-true, lt-ltb, le-ltb, ltb-true, eq-eqb, ne_eqb}
 use Rattle.std.proofs.lemmas.List.{length-append, append-nil}
 use Rattle.obs_matroid.specs.Lists.{In, IsDistinct, other_than, without, IsRising}
-use Rattle.obs_matroid.specs.Matroid.{Matroid, IsIndependent, IsMatroid}
-use Rattle.obs_matroid.specs.Assignments.{Pair, items, branches, part, IsAssignment, IsRho}
-use Rattle.obs_matroid.specs.Bounds.{IsTight}
-use Rattle.obs_matroid.specs.Critical.{IsCritical}
-use Rattle.obs_matroid.specs.First.{branch_at, IsNotAfter, IsFirst}
+use Rattle.obs_matroid.specs.Matroid.{Matroid, IsIndependent}
+use Rattle.obs_matroid.specs.inner.Matroid.{IsMatroid}
+use Rattle.obs_matroid.specs.Assignments.{Pair, items, branches, IsAssignment}
+use Rattle.obs_matroid.specs.inner.Assignments.{part, IsRho}
+use Rattle.obs_matroid.specs.inner.Bounds.{IsTight}
+use Rattle.obs_matroid.specs.inner.Critical.{IsCritical}
+use Rattle.obs_matroid.specs.First.{branch_at, IsNotAfter}
+use Rattle.obs_matroid.specs.inner.First.{IsFirst}
 use Rattle.obs_matroid.specs.Values.{pick, first_with, first_of, rho_of, is_critical}
 use Rattle.obs_matroid.proofs.Lists.{clash, In_same, In-append_cases, In-append_left, In-append_right, other_true, other_self, other_ne, IsDistinct-filter}
 use Rattle.obs_matroid.proofs.Ranks.{rank-short, rank-within, independent_from_rank, rank-independent}

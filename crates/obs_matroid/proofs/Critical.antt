@@ -3,11 +3,14 @@ use Rattle.std.proofs.Common.{◌≡◌, ℕ, zero, suc, ◌+◌, ◌≤◌, ◌
 use Rattle.std.specs.List.{flat_map}
 use Rattle.std.proofs.lemmas.Bool.{cases_Bool, not-true, or_cases, or_left, and_parts, and_from}
 use Rattle.obs_matroid.specs.Lists.{In, IsDistinct, other_than, without}
-use Rattle.obs_matroid.specs.Matroid.{Matroid, IsMatroid}
-use Rattle.obs_matroid.specs.Assignments.{Pair, items, branches, part, IsAssignment, IsRho}
-use Rattle.obs_matroid.specs.Bounds.{inside, outside, bound, IsTight}
-use Rattle.obs_matroid.specs.Critical.{IsCritical}
-use Rattle.obs_matroid.specs.Closed.{IsClosed, HoldsSources, IsLeastClosed, none, every}
+use Rattle.obs_matroid.specs.Matroid.{Matroid}
+use Rattle.obs_matroid.specs.inner.Matroid.{IsMatroid}
+use Rattle.obs_matroid.specs.Assignments.{Pair, items, branches, IsAssignment}
+use Rattle.obs_matroid.specs.inner.Assignments.{part, IsRho}
+use Rattle.obs_matroid.specs.Bounds.{inside, outside}
+use Rattle.obs_matroid.specs.inner.Bounds.{bound, IsTight}
+use Rattle.obs_matroid.specs.inner.Critical.{IsCritical}
+use Rattle.obs_matroid.specs.inner.Closed.{IsClosed, HoldsSources, IsLeastClosed, none, every}
 use Rattle.obs_matroid.proofs.Lists.{clash, In_same, In-filter, In-filter_from, cases_In, length-within, IsDistinct-filter, other_true, other_ne, In-flat_map_from, In-flat_map}
 use Rattle.obs_matroid.proofs.Ranks.{rank-short, rank-within}
 use Rattle.obs_matroid.proofs.Pairs.{In-items, In-items_from, In-part, In-part_from, IsDistinct-part, items_within, more_pairs, independent_part}

@@ -2,10 +2,12 @@
 use Rattle.std.proofs.Common.{◌≡◌, ℕ, zero, suc, List, [], ◌∷◌, refl, sym, inl, inr, cond, eqb}
 use Rattle.std.specs.List.{filter}
 use Rattle.std.proofs.lemmas.Bool.{or_cases, or_left, eqb-true, eq-eqb}
-use Rattle.obs_matroid.specs.Matroid.{Matroid, IsMatroid}
-use Rattle.obs_matroid.specs.Bounds.{bound}
+use Rattle.obs_matroid.specs.Matroid.{Matroid}
+use Rattle.obs_matroid.specs.inner.Matroid.{IsMatroid}
+use Rattle.obs_matroid.specs.inner.Bounds.{bound}
 use Rattle.obs_matroid.specs.Values.{first_with, first_of, rho_of, is_critical}
-use Rattle.obs_matroid.specs.Placement.{is_raising, answer_of, own_layers}
+use Rattle.obs_matroid.specs.Placement.{is_raising}
+use Rattle.obs_matroid.specs.inner.Placement.{answer_of, own_layers}
 use Rattle.obs_matroid.proofs.Lists.{clash, is_in, is_in_from, is_in_at}
 
 -- how many different numbers a list has

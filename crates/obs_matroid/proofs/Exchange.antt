@@ -4,9 +4,11 @@ use Rattle.std.specs.List.{filter}
 use Rattle.std.proofs.lemmas.Bool.{cases_Bool, cases_eq, and_parts}
 use Rattle.std.proofs.lemmas.List.{length-map}
 use Rattle.obs_matroid.specs.Lists.{In, IsDistinct, other_than}
-use Rattle.obs_matroid.specs.Matroid.{Matroid, IsMatroid}
-use Rattle.obs_matroid.specs.Assignments.{Pair, items, branches, part, others, IsAssignment}
-use Rattle.obs_matroid.specs.Exchange.{put, put_all, IsLink, LeadsTo, source, IsExchangePath, IsLonger}
+use Rattle.obs_matroid.specs.Matroid.{Matroid}
+use Rattle.obs_matroid.specs.inner.Matroid.{IsMatroid}
+use Rattle.obs_matroid.specs.Assignments.{Pair, items, branches, IsAssignment}
+use Rattle.obs_matroid.specs.inner.Assignments.{part, others}
+use Rattle.obs_matroid.specs.inner.Exchange.{put, put_all, IsLink, LeadsTo, source, IsExchangePath, IsLonger}
 use Rattle.obs_matroid.proofs.Lists.{clash, In_same, cases_In, other_true, other_ne, length-without}
 use Rattle.obs_matroid.proofs.Spans.{spans_more}
 use Rattle.obs_matroid.proofs.Pairs.{In-items, In-items_from, In-part, In-part_from, branches_within, items_within, IsDistinct-part, less_pairs, independent_part, both}

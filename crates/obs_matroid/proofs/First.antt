@@ -4,7 +4,7 @@ use Rattle.std.proofs.lemmas.Bool.{cases_order, and_parts, and_from}
 use Rattle.obs_matroid.specs.Lists.{In}
 use Rattle.obs_matroid.specs.Matroid.{Matroid}
 use Rattle.obs_matroid.specs.Assignments.{Pair, items, IsAssignment}
-use Rattle.obs_matroid.specs.Closed.{Extends}
+use Rattle.obs_matroid.specs.inner.Closed.{Extends}
 use Rattle.obs_matroid.specs.First.{branch_at, IsNotAfter}
 use Rattle.obs_matroid.proofs.Lists.{is_in, is_in_from, is_in_at}
 use Rattle.obs_matroid.proofs.Pairs.{In-items}

@@ -1,8 +1,9 @@
 -- A graph's closure and rank are a matroid.
 use Rattle.std.proofs.Common.{◌≡◌, ℕ, suc, List, [], ◌∷◌, inl, inr, Bool, true, false, refl}
 use Rattle.obs_matroid.specs.Lists.{In}
-use Rattle.obs_matroid.specs.Matroid.{IsMatroid}
-use Rattle.obs_matroid.specs.Graphic.{graphic, IsJoining}
+use Rattle.obs_matroid.specs.inner.Matroid.{IsMatroid}
+use Rattle.obs_matroid.specs.Graphic.{graphic}
+use Rattle.obs_matroid.specs.inner.Graphic.{IsJoining}
 use Rattle.obs_matroid.proofs.Lists.{clash}
 
 module _ (ends : ℕ → ℕ × ℕ) (joined : List ℕ → ℕ → ℕ → Bool) (j : IsJoining ends joined) where

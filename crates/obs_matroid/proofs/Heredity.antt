@@ -3,10 +3,12 @@ use Rattle.std.proofs.Common.{◌≡◌, refl, ℕ, suc, ◌+◌, ◌≤◌, Lis
 use Rattle.std.specs.List.{filter, flat_map}
 use Rattle.std.proofs.lemmas.Bool.{cases_Bool, cases_lt, not-true}
 use Rattle.obs_matroid.specs.Lists.{In, IsDistinct, other_than, without}
-use Rattle.obs_matroid.specs.Matroid.{Matroid, IsMatroid}
-use Rattle.obs_matroid.specs.Assignments.{IsRho}
-use Rattle.obs_matroid.specs.Bounds.{bound, inside, outside}
-use Rattle.obs_matroid.specs.Critical.{IsCritical}
+use Rattle.obs_matroid.specs.Matroid.{Matroid}
+use Rattle.obs_matroid.specs.inner.Matroid.{IsMatroid}
+use Rattle.obs_matroid.specs.inner.Assignments.{IsRho}
+use Rattle.obs_matroid.specs.Bounds.{inside, outside}
+use Rattle.obs_matroid.specs.inner.Bounds.{bound}
+use Rattle.obs_matroid.specs.inner.Critical.{IsCritical}
 use Rattle.obs_matroid.proofs.Lists.{clash, In-filter, In-filter_from, In-append_left, In-append_right, In-append_cases, cases_In, is_in, is_in_from, is_in_at, other_self, filter_out, IsDistinct-filter, IsDistinct-append}
 use Rattle.obs_matroid.proofs.Ranks.{rank-within}
 use Rattle.obs_matroid.proofs.Bounds.{weak_bound}

@@ -4,11 +4,14 @@ use Rattle.std.specs.List.{filter, flat_map}
 use Rattle.std.proofs.lemmas.Bool.{cases_Bool, cases_eq, not-true, or_cases, or_left, and_parts, and_from}
 use Rattle.std.proofs.lemmas.List.{length-append}
 use Rattle.obs_matroid.specs.Lists.{In, IsDistinct, other_than}
-use Rattle.obs_matroid.specs.Matroid.{Matroid, IsMatroid, IsIndependent}
-use Rattle.obs_matroid.specs.Assignments.{Pair, items, branches, part, others, IsAssignment}
-use Rattle.obs_matroid.specs.Closed.{none, every}
+use Rattle.obs_matroid.specs.Matroid.{Matroid, IsIndependent}
+use Rattle.obs_matroid.specs.inner.Matroid.{IsMatroid}
+use Rattle.obs_matroid.specs.Assignments.{Pair, items, branches, IsAssignment}
+use Rattle.obs_matroid.specs.inner.Assignments.{part, others}
+use Rattle.obs_matroid.specs.inner.Closed.{none, every}
 use Rattle.obs_matroid.specs.Islands.{LiesInside, IsSpanned, IsIsland}
-use Rattle.obs_matroid.specs.Graphic.{IsJoining, graphic}
+use Rattle.obs_matroid.specs.Graphic.{graphic}
+use Rattle.obs_matroid.specs.inner.Graphic.{IsJoining}
 use Rattle.std.specs.Cmp.Derive.{one_truth}
 use Rattle.obs_matroid.proofs.Lists.{clash, In_same, In-filter, In-filter_from, In-append_cases, In-flat_map, In-flat_map_from, cases_In, is_in, is_in_from, is_in_at, length-within, IsDistinct-filter, find_in, length-without_lt, other_true}
 use Rattle.obs_matroid.proofs.Pairs.{IsDistinct-filter_items, In-items, In-items_from, In-branches, In-branches_from, In-part, In-part_from, IsDistinct-part, branches_within, independent_part, own}

@@ -5,7 +5,8 @@ use Rattle.std.proofs.Math.Nat.{mul-le-mul_right, suc-mul}
 use Rattle.std.proofs.lemmas.Bool.{lt-ltb, le-ltb, cases_lt}
 use Rattle.std.proofs.lemmas.List.Sums.{sum_by-cons}
 use Rattle.obs_matroid.specs.Lists.{In}
-use Rattle.obs_matroid.specs.Placement.{RunsThrough, Layer, RunOn, layers_sum}
+use Rattle.obs_matroid.specs.Placement.{Layer, RunOn, layers_sum}
+use Rattle.obs_matroid.specs.inner.Placement.{RunsThrough}
 
 -- the candidates with a price that is not below a number
 abbrev pub not_below : (ℕ → ℕ) → ℕ → List ℕ → List ℕ

@@ -3,9 +3,11 @@ use Rattle.std.proofs.Common.{◌≡◌, ℕ, zero, suc, ◌+◌, ◌≤◌, Lis
 use Rattle.std.specs.List.{filter}
 use Rattle.std.proofs.lemmas.Bool.{cases_Bool, not-true, or_parts, and_parts, and_from}
 use Rattle.obs_matroid.specs.Lists.{In, IsDistinct, other_than}
-use Rattle.obs_matroid.specs.Matroid.{Matroid, IsIndependent, IsMatroid}
-use Rattle.obs_matroid.specs.Assignments.{Pair, items, branches, part, others, IsAssignment}
-use Rattle.obs_matroid.specs.Closed.{HasFrozen, HoldsSources, IsLeastClosed, IsGrown}
+use Rattle.obs_matroid.specs.Matroid.{Matroid, IsIndependent}
+use Rattle.obs_matroid.specs.inner.Matroid.{IsMatroid}
+use Rattle.obs_matroid.specs.Assignments.{Pair, items, branches, IsAssignment}
+use Rattle.obs_matroid.specs.inner.Assignments.{part, others}
+use Rattle.obs_matroid.specs.inner.Closed.{HasFrozen, HoldsSources, IsLeastClosed, IsGrown}
 use Rattle.obs_matroid.proofs.Lists.{clash, In_same, In-filter, In-filter_from, cases_In, length-within, IsDistinct-filter, other_ne, find_in, is_in, is_in_from, is_in_at}
 use Rattle.obs_matroid.proofs.Pairs.{In-items, In-part, In-part_from, more_pairs, both}
 use Rattle.obs_matroid.proofs.Search.{Reached, start, step, Reached-in, grown, Reached-least}

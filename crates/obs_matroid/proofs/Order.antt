@@ -1,9 +1,11 @@
 -- Pairs in another order, or fewer of them.
 use Rattle.std.proofs.Common.{◌≡◌, ℕ, ◌≤◌, List, [], ◌∷◌, length, refl, sym, inl, inr, arith, ◌↔◌}
 use Rattle.obs_matroid.specs.Lists.{In, IsDistinct, other_than}
-use Rattle.obs_matroid.specs.Matroid.{Matroid, IsIndependent, IsMatroid}
-use Rattle.obs_matroid.specs.Assignments.{Pair, items, branches, part, others, IsAssignment}
-use Rattle.obs_matroid.specs.Exchange.{put, put_all}
+use Rattle.obs_matroid.specs.Matroid.{Matroid, IsIndependent}
+use Rattle.obs_matroid.specs.inner.Matroid.{IsMatroid}
+use Rattle.obs_matroid.specs.Assignments.{Pair, items, branches, IsAssignment}
+use Rattle.obs_matroid.specs.inner.Assignments.{part, others}
+use Rattle.obs_matroid.specs.inner.Exchange.{put, put_all}
 use Rattle.obs_matroid.proofs.Lists.{In_same, other_true, length-within}
 use Rattle.obs_matroid.proofs.Spans.{spans_less}
 use Rattle.obs_matroid.proofs.Pairs.{In-items, In-part, In-part_from, branches_within, items_within, own}

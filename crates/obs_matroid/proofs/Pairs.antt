@@ -3,8 +3,10 @@ use Rattle.std.proofs.Common.{map, ◌≡◌, ℕ, List, [], ◌∷◌, sym, ap,
 use Rattle.std.specs.List.{filter}
 use Rattle.std.proofs.lemmas.Bool.{cases_Bool, cases_eq, and_parts, and_from}
 use Rattle.obs_matroid.specs.Lists.{In, IsDistinct, other_than}
-use Rattle.obs_matroid.specs.Matroid.{Matroid, IsIndependent, IsMatroid}
-use Rattle.obs_matroid.specs.Assignments.{Pair, items, branches, part, others}
+use Rattle.obs_matroid.specs.Matroid.{Matroid, IsIndependent}
+use Rattle.obs_matroid.specs.inner.Matroid.{IsMatroid}
+use Rattle.obs_matroid.specs.Assignments.{Pair, items, branches}
+use Rattle.obs_matroid.specs.inner.Assignments.{part, others}
 use Rattle.obs_matroid.proofs.Spans.{spans_more, spans_less, swapped}
 use Rattle.obs_matroid.proofs.Lists.{clash, In_same, In-map, In-map_from, In-filter, In-filter_from, cases_In, other_true, other_self}
 

@@ -4,11 +4,14 @@ use Rattle.std.specs.List.{filter}
 use Rattle.std.specs.Cmp.Derive.{one_truth}
 use Rattle.std.proofs.lemmas.Bool.{cases_Bool, cases_eq, cases_lt, not-true, and_parts, and_from, or_cases, or_left, or_right, eq-eqb, eqb-true, ltb-true, lt-ltb}
 use Rattle.obs_matroid.specs.Lists.{In, IsDistinct, other_than, without}
-use Rattle.obs_matroid.specs.Matroid.{Matroid, IsMatroid}
-use Rattle.obs_matroid.specs.Assignments.{Pair, items, IsAssignment, IsRho}
-use Rattle.obs_matroid.specs.Closed.{IsLeastClosed, every, none}
-use Rattle.obs_matroid.specs.Critical.{IsCritical}
-use Rattle.obs_matroid.specs.Partners.{ArePartners, class_of, first_passing, is_partner}
+use Rattle.obs_matroid.specs.Matroid.{Matroid}
+use Rattle.obs_matroid.specs.inner.Matroid.{IsMatroid}
+use Rattle.obs_matroid.specs.Assignments.{Pair, items, IsAssignment}
+use Rattle.obs_matroid.specs.inner.Assignments.{IsRho}
+use Rattle.obs_matroid.specs.inner.Closed.{IsLeastClosed, every, none}
+use Rattle.obs_matroid.specs.inner.Critical.{IsCritical}
+use Rattle.obs_matroid.specs.Partners.{class_of, first_passing, is_partner}
+use Rattle.obs_matroid.specs.inner.Partners.{ArePartners}
 use Rattle.obs_matroid.specs.Values.{rho_of, is_critical}
 use Rattle.obs_matroid.proofs.Lists.{clash, In-filter, In-filter_from, cases_In, other_true, filter_out, IsDistinct-filter}
 use Rattle.obs_matroid.proofs.Critical.{rho_same, marks_critical}

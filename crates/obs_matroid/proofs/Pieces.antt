@@ -4,7 +4,8 @@ use Rattle.std.specs.List.{filter}
 use Rattle.std.proofs.lemmas.Bool.{cases_eq}
 use Rattle.obs_matroid.specs.Lists.{In, IsDistinct, other_than, without}
 use Rattle.obs_matroid.specs.Matroid.{IsIndependent}
-use Rattle.obs_matroid.specs.Graphic.{IsJoining, graphic}
+use Rattle.obs_matroid.specs.Graphic.{graphic}
+use Rattle.obs_matroid.specs.inner.Graphic.{IsJoining}
 use Rattle.obs_matroid.proofs.Graphs.{joined_more}
 use Rattle.obs_matroid.proofs.Lists.{clash, In-filter, In-filter_from, other_true, other_ne, IsDistinct-filter, length-without}
 

@@ -2,10 +2,12 @@
 use Rattle.std.proofs.Common.{◌≡◌, ℕ, List, inl, inr, Bool, true, false, ◌⊎◌}
 use Rattle.std.proofs.lemmas.Bool.{cases_Bool, cases_eq}
 use Rattle.obs_matroid.specs.Lists.{In, other_than}
-use Rattle.obs_matroid.specs.Matroid.{Matroid, IsMatroid}
-use Rattle.obs_matroid.specs.Assignments.{Pair, items, branches, part, others, IsAssignment}
-use Rattle.obs_matroid.specs.Closed.{Extends}
-use Rattle.obs_matroid.specs.Exchange.{pinned, IsPinned}
+use Rattle.obs_matroid.specs.Matroid.{Matroid}
+use Rattle.obs_matroid.specs.inner.Matroid.{IsMatroid}
+use Rattle.obs_matroid.specs.Assignments.{Pair, items, branches, IsAssignment}
+use Rattle.obs_matroid.specs.inner.Assignments.{part, others}
+use Rattle.obs_matroid.specs.inner.Closed.{Extends}
+use Rattle.obs_matroid.specs.inner.Exchange.{pinned, IsPinned}
 use Rattle.obs_matroid.proofs.Lists.{clash, find_in, other_true}
 use Rattle.obs_matroid.proofs.Pairs.{In-part, In-part_from, more_pairs, less_pairs, own}
 use Rattle.obs_matroid.proofs.Exchange.{IsAssignment-put}

@@ -3,9 +3,11 @@ use Rattle.std.proofs.Common.{◌≡◌, true, ℕ, suc, ◌-◌, ◌≤◌, Lis
 use Rattle.std.specs.List.{sum_by}
 use Rattle.std.proofs.lemmas.Bool.{cases_Bool, cases_eq, not-true, or_left, or_right, and_from, eq-eqb}
 use Rattle.obs_matroid.specs.Lists.{In, IsDistinct, other_than}
-use Rattle.obs_matroid.specs.Matroid.{Matroid, IsMatroid}
-use Rattle.obs_matroid.specs.Assignments.{Pair, items, part, IsAssignment, IsRho}
-use Rattle.obs_matroid.specs.Closed.{IsClosed, HoldsSources, IsGrown, none, every}
+use Rattle.obs_matroid.specs.Matroid.{Matroid}
+use Rattle.obs_matroid.specs.inner.Matroid.{IsMatroid}
+use Rattle.obs_matroid.specs.Assignments.{Pair, items, IsAssignment}
+use Rattle.obs_matroid.specs.inner.Assignments.{part, IsRho}
+use Rattle.obs_matroid.specs.inner.Closed.{IsClosed, HoldsSources, IsGrown, none, every}
 use Rattle.obs_matroid.specs.Placement.{Layer, RunOn, layers_sum, below, IsShown}
 use Rattle.obs_matroid.proofs.Lists.{clash, In_same, In-filter, In-append_left, In-append_right, In-append_cases, cases_In, is_in, is_in_from, is_in_at, other_true, other_ne}
 use Rattle.obs_matroid.proofs.Pairs.{In-items_from, In-part_from, IsDistinct-part, independent_part}

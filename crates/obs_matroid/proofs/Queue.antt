@@ -2,10 +2,12 @@
 use Rattle.std.proofs.Common.{◌≡◌, ℕ, zero, suc, ◌≤◌, ◌<◌, List, [], ◌∷◌, inl, inr, Bool, true, false, cond, arith}
 use Rattle.std.proofs.lemmas.Bool.{cases_Bool}
 use Rattle.obs_matroid.specs.Lists.{In}
-use Rattle.obs_matroid.specs.Matroid.{Matroid, IsMatroid}
-use Rattle.obs_matroid.specs.Assignments.{Pair, items, branches, others, IsAssignment}
-use Rattle.obs_matroid.specs.Closed.{HasFrozen, HoldsSources, IsLeastClosed, IsGrown}
-use Rattle.obs_matroid.specs.Exchange.{put_all, source}
+use Rattle.obs_matroid.specs.Matroid.{Matroid}
+use Rattle.obs_matroid.specs.inner.Matroid.{IsMatroid}
+use Rattle.obs_matroid.specs.Assignments.{Pair, items, branches, IsAssignment}
+use Rattle.obs_matroid.specs.inner.Assignments.{others}
+use Rattle.obs_matroid.specs.inner.Closed.{HasFrozen, HoldsSources, IsLeastClosed, IsGrown}
+use Rattle.obs_matroid.specs.inner.Exchange.{put_all, source}
 use Rattle.obs_matroid.proofs.Search.{Trail, Reached, start, step, Trail-grows}
 use Rattle.obs_matroid.proofs.Least.{least_closed}
 

@@ -2,12 +2,15 @@
 use Rattle.std.proofs.Common.{◌≡◌, ℕ, suc, ◌+◌, ◌≤◌, subst, List, ◌∷◌, length, refl, ap, sym, ◌∙◌, inl, inr, Bool, true, false, ◌||◌, arith}
 use Rattle.std.proofs.lemmas.Bool.{or_cases}
 use Rattle.obs_matroid.specs.Lists.{In, IsDistinct, other_than}
-use Rattle.obs_matroid.specs.Matroid.{Matroid, IsMatroid}
-use Rattle.obs_matroid.specs.Assignments.{Pair, items, branches, part, IsAssignment, IsRho}
-use Rattle.obs_matroid.specs.Closed.{none, every}
-use Rattle.obs_matroid.specs.Graphic.{IsJoining, graphic}
+use Rattle.obs_matroid.specs.Matroid.{Matroid}
+use Rattle.obs_matroid.specs.inner.Matroid.{IsMatroid}
+use Rattle.obs_matroid.specs.Assignments.{Pair, items, branches, IsAssignment}
+use Rattle.obs_matroid.specs.inner.Assignments.{part, IsRho}
+use Rattle.obs_matroid.specs.inner.Closed.{none, every}
+use Rattle.obs_matroid.specs.Graphic.{graphic}
+use Rattle.obs_matroid.specs.inner.Graphic.{IsJoining}
 use Rattle.obs_matroid.specs.Islands.{IsIsland, IsSpanned}
-use Rattle.obs_matroid.specs.Laws.{BetweenIslandsRaises, HasHub, LiesBetween}
+use Rattle.obs_matroid.specs.inner.Laws.{BetweenIslandsRaises, HasHub, LiesBetween}
 use Rattle.obs_matroid.proofs.Lists.{clash, cases_In, In_same, other_ne}
 use Rattle.obs_matroid.proofs.Pairs.{In-items, In-items_from, In-part_from, IsDistinct-part, independent_part, own}
 use Rattle.obs_matroid.proofs.Exchange.{length-put_in}

@@ -1,9 +1,10 @@
 -- An assignment grows as long as its frozen pairs allow.
 use Rattle.std.proofs.Common.{◌≡◌, ℕ, zero, suc, ◌+◌, ◌≤◌, List, length, refl, inl, inr, Bool, true, arith}
 use Rattle.obs_matroid.specs.Lists.{In, IsDistinct}
-use Rattle.obs_matroid.specs.Matroid.{Matroid, IsMatroid}
+use Rattle.obs_matroid.specs.Matroid.{Matroid}
+use Rattle.obs_matroid.specs.inner.Matroid.{IsMatroid}
 use Rattle.obs_matroid.specs.Assignments.{Pair, items, IsAssignment}
-use Rattle.obs_matroid.specs.Closed.{HasFrozen, Extends, IsClosed, HoldsSources, every, IsRegrown}
+use Rattle.obs_matroid.specs.inner.Closed.{HasFrozen, Extends, IsClosed, HoldsSources, every, IsRegrown}
 use Rattle.obs_matroid.proofs.Lists.{In_same}
 use Rattle.obs_matroid.proofs.Pairs.{In-items_from, same_pair}
 use Rattle.obs_matroid.proofs.Closed.{closed_longest}

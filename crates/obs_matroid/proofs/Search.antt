@@ -2,10 +2,12 @@
 use Rattle.std.proofs.Common.{◌≡◌, ℕ, List, [], ◌∷◌, refl, inl, inr, Bool, true, false, ◌||◌, ◌⊎◌}
 use Rattle.std.proofs.lemmas.Bool.{cases_Bool, or_cases}
 use Rattle.obs_matroid.specs.Lists.{In, other_than}
-use Rattle.obs_matroid.specs.Matroid.{Matroid, IsMatroid}
-use Rattle.obs_matroid.specs.Assignments.{Pair, items, branches, part, others, IsAssignment}
-use Rattle.obs_matroid.specs.Closed.{IsClosed, HasFrozen, HoldsSources, IsGrown}
-use Rattle.obs_matroid.specs.Exchange.{LeadsTo, source, put_all}
+use Rattle.obs_matroid.specs.Matroid.{Matroid}
+use Rattle.obs_matroid.specs.inner.Matroid.{IsMatroid}
+use Rattle.obs_matroid.specs.Assignments.{Pair, items, branches, IsAssignment}
+use Rattle.obs_matroid.specs.inner.Assignments.{part, others}
+use Rattle.obs_matroid.specs.inner.Closed.{IsClosed, HasFrozen, HoldsSources, IsGrown}
+use Rattle.obs_matroid.specs.inner.Exchange.{LeadsTo, source, put_all}
 use Rattle.obs_matroid.proofs.Lists.{clash, In_same, other_true}
 use Rattle.obs_matroid.proofs.Pairs.{In-items_from, In-part, In-part_from, more_pairs}
 use Rattle.obs_matroid.proofs.Exchange.{linked, exchange_path, put_all_stays}

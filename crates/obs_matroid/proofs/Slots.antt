@@ -4,10 +4,10 @@ use Rattle.std.proofs.lemmas.Bool.{cases_eq}
 use Rattle.std.proofs.lemmas.List.{get_or-set_same, get_or-set_other}
 use Rattle.obs_matroid.specs.Lists.{In, IsDistinct, other_than}
 use Rattle.obs_matroid.specs.Assignments.{Pair, items}
-use Rattle.obs_matroid.specs.Exchange.{put}
+use Rattle.obs_matroid.specs.inner.Exchange.{put}
 use Rattle.obs_matroid.proofs.Lists.{other_true, other_ne}
 use Rattle.obs_matroid.proofs.Pairs.{In-items_from, In-part, In-part_from}
-use Rattle.obs_matroid.specs.Slots.{pairs_from, pairs_of}
+use Rattle.obs_matroid.specs.inner.Slots.{pairs_from, pairs_of}
 
 pairs_from_low : (n : ℕ) (slots : List (Option ℕ)) (p : Pair) → In p (pairs_from n slots) → n ≤ p.0
 pairs_from_low n [] p i = absurd i

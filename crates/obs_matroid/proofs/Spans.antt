@@ -2,7 +2,8 @@
 use Rattle.std.proofs.Common.{◌≡◌, ℕ, List, ◌∷◌, inl, inr, true, false}
 use Rattle.std.proofs.lemmas.Bool.{cases_Bool}
 use Rattle.obs_matroid.specs.Lists.{In}
-use Rattle.obs_matroid.specs.Matroid.{Matroid, IsMatroid}
+use Rattle.obs_matroid.specs.Matroid.{Matroid}
+use Rattle.obs_matroid.specs.inner.Matroid.{IsMatroid}
 use Rattle.obs_matroid.proofs.Lists.{clash}
 
 module _ (g : Matroid) (laws : IsMatroid g) where

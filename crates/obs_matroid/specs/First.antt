@@ -1,7 +1,6 @@
 -- The first assignment: the least of the longest ones.
-use Rattle.std.specs.Prelude.{◌≡◌, ℕ, ◌≤◌, ◌<◌, if◌then◌else◌, ◌==◌, ◌⊎◌, List, [], ◌∷◌, length, Option, Some, None}
-use Rattle.obs_matroid.specs.Matroid.{Matroid}
-use Rattle.obs_matroid.specs.Assignments.{Pair, IsAssignment}
+use Rattle.std.specs.Prelude.{◌≡◌, ℕ, ◌<◌, if◌then◌else◌, ◌==◌, ◌⊎◌, List, [], ◌∷◌, Option, Some, None}
+use Rattle.obs_matroid.specs.Assignments.{Pair}
 
 -- the branch that A gives to the item m, if it gives one
 abbrev pub branch_at : List Pair → ℕ → Option ℕ
@@ -18,9 +17,3 @@ IsBefore None o = ⊥
 abbrev pub IsNotAfter : List ℕ → List Pair → List Pair → Type 0
 IsNotAfter [] A B = Unit {0}
 IsNotAfter (m ∷ ms) A B = IsBefore (branch_at A m) (branch_at B m) ⊎ ((branch_at A m ≡ branch_at B m) × IsNotAfter ms A B)
-
--- A is the first assignment of M: a longest one, and no other longest one comes before it
-pub record IsFirst (g : Matroid) (touch : ℕ → List ℕ) (M : List ℕ) (A : List Pair) : Type 0 where
-  pub assigns : IsAssignment g touch M A
-  pub longest : (B : List Pair) → IsAssignment g touch M B → length B ≤ length A
-  pub least : (B : List Pair) → IsAssignment g touch M B → length B ≡ length A → IsNotAfter M A B

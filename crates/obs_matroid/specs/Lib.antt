@@ -2,15 +2,10 @@ pub mod Lists
 pub mod Matroid
 pub mod Graphic
 pub mod Assignments
-pub mod Slots
 pub mod Bounds
-pub mod Critical
-pub mod Closed
-pub mod Exchange
 pub mod First
 pub mod Values
 pub mod Partners
-pub mod Components
 pub mod Islands
 pub mod Placement
-pub mod Laws
+pub mod inner

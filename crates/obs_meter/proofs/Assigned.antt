@@ -9,7 +9,8 @@ use Rattle.obs_graph.proofs.IsJoined.{apart-from_false, false-from_apart}
 use Rattle.obs_graph.proofs.Forests.{Grows, IsForest-from_Grows, Grows-from_IsForest}
 use Rattle.obs_matroid.specs.Lists.{IsDistinct}
 use Rattle.obs_matroid.specs.Matroid.{IsIndependent}
-use Rattle.obs_matroid.specs.Assignments.{Pair, branches, IsAssignment, IsRho}
+use Rattle.obs_matroid.specs.Assignments.{Pair, branches, IsAssignment}
+use Rattle.obs_matroid.specs.inner.Assignments.{IsRho}
 use Rattle.obs_matroid.proofs.Lists.{In-filter, In-filter_from, IsDistinct-filter}
 use Rattle.obs_matroid.proofs.Computed.{rho_of_is}
 use Rattle.obs_matroid.proofs.Critical.{rho_same}

@@ -6,14 +6,15 @@ use Rattle.std.proofs.lemmas.Bool.{or_cases, or_left, or_right, and_parts, and_f
 use Rattle.std.proofs.lemmas.List.{get_or_past}
 use Rattle.std.proofs.lemmas.List.Elements.{All-get_or}
 use Rattle.obs_graph.specs.declared.Ends.{Ends}
-use Rattle.obs_graph.specs.Joined.{is_joined, joined_by, rank}
+use Rattle.obs_graph.specs.Joined.{is_joined, rank}
+use Rattle.obs_graph.specs.inner.Joined.{joined_by}
 use Rattle.obs_graph.specs.Positions.{ends_of, AreBranches}
 use Rattle.obs_graph.proofs.IsJoined.{same-from_true, true-from_same, apart-from_false}
 use Rattle.obs_graph.proofs.Exchange.{joined_by-is_joined}
 use Rattle.obs_graph.proofs.Ranks.{rank-add_joined, rank-add_new}
 use Rattle.obs_graph.proofs.Forests.{rank-nil}
-use Rattle.obs_matroid.specs.Matroid.{IsMatroid}
-use Rattle.obs_matroid.specs.Graphic.{IsJoining}
+use Rattle.obs_matroid.specs.inner.Matroid.{IsMatroid}
+use Rattle.obs_matroid.specs.inner.Graphic.{IsJoining}
 use Rattle.obs_matroid.proofs.Graphs.{IsMatroid-graphic}
 use Rattle.obs_meter.specs.Spanned.{both_ends, ends_at, joined_at, rank_at, graph_matroid}
 

@@ -13,9 +13,11 @@ use Rattle.obs_matroid.proofs.Lists.{In-filter, In-filter_from, filter_same}
 use Rattle.obs_meter.specs.declared.Touch.{Touch}
 use Rattle.obs_meter.specs.declared.Touch.TheVariants.{Nothing}
 use Rattle.obs_meter.specs.Assignments.{IsAssignmentAt, IsRhoAt}
-use Rattle.obs_meter.specs.Lost.{left_of, losing}
-use Rattle.obs_meter.specs.Sizes.{HasRoomFor, Sizes}
-use Rattle.obs_meter.specs.Touches.{AreInRange, IsInRange, every_item, is_live, live_items, touch_at, touched}
+use Rattle.obs_meter.specs.Lost.{losing}
+use Rattle.obs_meter.specs.inner.Lost.{left_of}
+use Rattle.obs_meter.specs.inner.Sizes.{HasRoomFor, Sizes}
+use Rattle.obs_meter.specs.Touches.{every_item, is_live, live_items, touch_at, touched}
+use Rattle.obs_meter.specs.inner.Touches.{AreInRange, IsInRange}
 
 -- a filter after another is one of both tests
 filter_both : (p q : ℕ → Bool) (xs : List ℕ) → filter q (filter p xs) ≡ filter (λ x. p x && q x) xs

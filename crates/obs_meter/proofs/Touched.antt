@@ -17,7 +17,8 @@ use Rattle.obs_matroid.proofs.Contained.{All-from_In, Contains-from_In, In-from_
 use Rattle.obs_meter.specs.declared.Hub.{Hub}
 use Rattle.obs_meter.specs.declared.Touch.{Touch}
 use Rattle.obs_meter.specs.declared.Touch.TheVariants.{Nothing, Edge, Star, Front}
-use Rattle.obs_meter.specs.Touches.{IsInRange, hub_of, touched, touch_at, is_live}
+use Rattle.obs_meter.specs.Touches.{touched, touch_at, is_live}
+use Rattle.obs_meter.specs.inner.Touches.{IsInRange, hub_of}
 use Rattle.obs_meter.specs.Spanned.{both_ends, ends_at, common_vertex}
 
 itself_rising : (o : Option Ends) (e : ℕ) → AllPairs ◌<◌ (itself_of o e)

@@ -1,14 +1,13 @@
 -- Assignments over a graph: items, each with a branch of its own among those that it touches, which make a forest.
-use Rattle.std.specs.Prelude.{◌≡◌, ℕ, ◌+◌, ◌≤◌, Bool, Option, List, length, flat_map}
+use Rattle.std.specs.Prelude.{◌≡◌, ℕ, ◌≤◌, Option, List, length}
 use Rattle.obs_graph.specs.declared.Ends.{Ends}
 use Rattle.obs_graph.specs.Positions.{IsForestAt}
 use Rattle.obs_matroid.specs.Lists.{In, IsDistinct}
 use Rattle.obs_matroid.specs.Assignments.{Pair, items, branches}
-use Rattle.obs_matroid.specs.Bounds.{inside, outside}
 use Rattle.obs_matroid.specs.Values.{rho_of}
 use Rattle.obs_meter.specs.declared.Touch.{Touch}
 use Rattle.obs_meter.specs.Touches.{touch_at}
-use Rattle.obs_meter.specs.Spanned.{graph_matroid, rank_at}
+use Rattle.obs_meter.specs.Spanned.{graph_matroid}
 
 -- A is an assignment of items of M: each pair is an item of M and a branch that it touches,
 -- the items are different, and the branches are present and a forest (and so different too)
@@ -28,7 +27,3 @@ pub record IsRhoAt (ends : List (Option Ends)) (touches : List Touch) (M : List 
 -- the greatest length of an assignment of items of M, computed; the graph has n vertices
 abbrev pub rho_at : ℕ → List (Option Ends) → List Touch → List ℕ → ℕ
 rho_at n ends touches M = rho_of (graph_matroid n ends) (touch_at ends touches) M
-
--- the bound of J over M: the rank of what the items in J touch, and one for each other item
-abbrev pub bound_at : ℕ → List (Option Ends) → List Touch → (ℕ → Bool) → List ℕ → ℕ
-bound_at n ends touches J M = rank_at n ends (flat_map (touch_at ends touches) (inside J M)) + length (outside J M)

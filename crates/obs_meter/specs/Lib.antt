@@ -2,5 +2,5 @@ pub mod Touches
 pub mod Held
 pub mod Spanned
 pub mod Assignments
-pub mod Sizes
 pub mod Lost
+pub mod inner

@@ -1,5 +1,5 @@
 -- Items that are lost: they touch nothing.
-use Rattle.std.specs.Prelude.{ℕ, ◌==◌, Bool, not, if◌then◌else◌, List, map, filter, slice_index_or}
+use Rattle.std.specs.Prelude.{ℕ, ◌==◌, Bool, if◌then◌else◌, List, map, slice_index_or}
 use Rattle.std.specs.List.{list_any}
 use Rattle.obs_meter.specs.declared.Touch.{Touch}
 use Rattle.obs_meter.specs.declared.Touch.TheVariants.{Nothing}
@@ -8,10 +8,6 @@ use Rattle.obs_meter.specs.Touches.{every_item}
 -- what items touch where those that the test marks are lost
 unfoldable pub losing : (ℕ → Bool) → List Touch → List Touch
 losing lost touches = map (λ m. if lost m then Nothing else slice_index_or touches m Nothing) (every_item touches)
-
--- of a list of items those that aren't lost
-abbrev pub left_of : (ℕ → Bool) → List ℕ → List ℕ
-left_of lost M = filter (λ m. not (lost m)) M
 
 -- whether an item is on a list
 abbrev pub is_listed : List ℕ → ℕ → Bool

@@ -1,10 +1,9 @@
 -- What items touch in a graph. `ends` are the ends of the graph's branches by position, where some are absent.
-use Rattle.std.specs.Prelude.{ℕ, ◌<◌, ◌≤◌, ◌==◌, Bool, nat_lt, Option, None, Some, List, [], length, take, All, filter, slice_index_or}
-use Rattle.std.specs.List.{list_any, range_with_len}
+use Rattle.std.specs.Prelude.{ℕ, Bool, nat_lt, Option, None, List, [], length, take, filter, slice_index_or}
+use Rattle.std.specs.List.{range_with_len}
 use Rattle.obs_graph.specs.declared.Ends.{Ends}
 use Rattle.obs_graph.specs.Positions.{branches_at}
-use Rattle.obs_graph.specs.Graph.{Graph, itself_of}
-use Rattle.obs_meter.specs.declared.Hub.{Hub}
+use Rattle.obs_graph.specs.Graph.{itself_of}
 use Rattle.obs_meter.specs.declared.Touch.{Touch}
 use Rattle.obs_meter.specs.declared.Touch.TheVariants.{Nothing, Edge, Star, Front}
 
@@ -16,31 +15,9 @@ touched ends (Edge e) = itself_of (slice_index_or ends e None) e
 touched ends (Star v) = branches_at ends v
 touched ends (Front v count) = take count (branches_at ends v)
 
--- the vertex at which the first so many branches are touched, and how many: at a star all of them
-abbrev pub hub_of : List (Option Ends) → Touch → Option Hub
-hub_of ends Nothing = None
-hub_of ends (Edge e) = None
-hub_of ends (Star v) = Some (record { vertex = v; count = length (branches_at ends v) })
-hub_of ends (Front v count) = Some (record { vertex = v; count = count })
-
 -- what the item m touches, and nothing where there is no such item
 abbrev pub touch_at : List (Option Ends) → List Touch → ℕ → List ℕ
 touch_at ends touches m = touched ends (slice_index_or touches m Nothing)
-
--- whether the item m touches the branch e
-abbrev pub touches_branch : List (Option Ends) → List Touch → ℕ → ℕ → Bool
-touches_branch ends touches m e = list_any (λ p. p == e) (touch_at ends touches m)
-
--- the position or the vertex is one of the graph's, and as many branches are there as are to be touched
-abbrev pub IsInRange : Graph → Touch → Type 0
-IsInRange g Nothing = Unit {0}
-IsInRange g (Edge e) = e < length g.ends
-IsInRange g (Star v) = v < g.vertices
-IsInRange g (Front v count) = (v < g.vertices) × (count ≤ length (branches_at g.ends v))
-
--- the same for each item
-abbrev pub AreInRange : Graph → List Touch → Type 0
-AreInRange g touches = All (IsInRange g) touches
 
 -- whether the item m touches a branch
 abbrev pub is_live : List (Option Ends) → List Touch → ℕ → Bool

@@ -3,15 +3,20 @@ ghost use Rattle.std.specs.Prelude.{◌≡◌, ◌<◌, ◌⊎◌, ◌↔◌, �
 ghost use Rattle.obs_graph.specs.declared.Ends.{Ends};
 ghost use Rattle.obs_graph.specs.Positions.{AreBranches, IsForestAt, branches_at};
 ghost use Rattle.obs_matroid.specs.Lists.{IsDistinct};
-ghost use Rattle.obs_matroid.specs.Matroid.{IsIndependent, IsMatroid};
-ghost use Rattle.obs_matroid.specs.Assignments.{IsAssignment, IsRho, Pair};
-ghost use Rattle.obs_matroid.specs.Bounds.{bound};
+ghost use Rattle.obs_matroid.specs.Matroid.{IsIndependent};
+ghost use Rattle.obs_matroid.specs.inner.Matroid.{IsMatroid};
+ghost use Rattle.obs_matroid.specs.Assignments.{IsAssignment, Pair};
+ghost use Rattle.obs_matroid.specs.inner.Assignments.{IsRho};
+ghost use Rattle.obs_matroid.specs.inner.Bounds.{bound};
 ghost use Rattle.obs_meter.specs.declared.Hub.{Hub};
 ghost use Rattle.obs_meter.specs.declared.Touch.{Touch};
-ghost use Rattle.obs_meter.specs.Lost.{left_of, losing};
-ghost use Rattle.obs_meter.specs.Touches.{every_item, hub_of, live_items, touch_at, touched};
+ghost use Rattle.obs_meter.specs.Lost.{losing};
+ghost use Rattle.obs_meter.specs.inner.Lost.{left_of};
+ghost use Rattle.obs_meter.specs.Touches.{every_item, live_items, touch_at, touched};
+ghost use Rattle.obs_meter.specs.inner.Touches.{hub_of};
 ghost use Rattle.obs_meter.specs.Spanned.{ends_at, graph_matroid, common_vertex};
-ghost use Rattle.obs_meter.specs.Assignments.{IsAssignmentAt, IsRhoAt, bound_at, rho_at};
+ghost use Rattle.obs_meter.specs.Assignments.{IsAssignmentAt, IsRhoAt, rho_at};
+ghost use Rattle.obs_meter.specs.inner.Assignments.{bound_at};
 
 /// The branches that an item touches rise and are present, and all of them lie at one vertex. Where the item has a hub,
 /// they are the first so many branches there.

@@ -2,7 +2,8 @@
 ghost use Rattle.std.specs.Prelude.{◌≡◌, ◌<◌, ◌≤◌, ◌==◌, [], length, All, AllPairs, Contains, IfOk, slice_index_or, slice_set, take};
 ghost use Rattle.std.specs.List.{list_any};
 ghost use Rattle.obs_graph.specs.Positions.{has_end};
-ghost use Rattle.obs_meter.specs.Touches.{IsInRange, hub_of, is_live, touch_at, touches_branch};
+ghost use Rattle.obs_meter.specs.Touches.{is_live, touch_at};
+ghost use Rattle.obs_meter.specs.inner.Touches.{IsInRange, hub_of, touches_branch};
 
 use crate::memory::NoMemory;
 use crate::{Hub, Touch};

@@ -15,7 +15,8 @@ use Rattle.obs_case.specs.Tables.{IsValid, Tables}
 use Rattle.obs_case.proofs.ValidLemmas.{valid-with_branch_inservice}
 use Rattle.obs_matroid.specs.Lists.{In}
 use Rattle.obs_network.specs.Switched.{case_bus_count, case_buses}
-use Rattle.obs_network.specs.Components.{is_absolute_node, is_marked, is_source, marked_nodes, source_nodes}
+use Rattle.obs_network.specs.Components.{is_absolute_node, is_marked, is_source, marked_nodes}
+use Rattle.obs_network.specs.inner.Components.{source_nodes}
 use Rattle.obs_network.specs.Network.{case_components, case_live, case_needed, case_rows}
 use Rattle.obs_network.specs.Observable.{is_absolute_component, is_energised_component}
 use Rattle.obs_network.specs.Parted.{outage_case}

@@ -6,11 +6,12 @@ use Rattle.std.proofs.lemmas.Bool.{cases_Bool, cases_eq}
 use Rattle.std.proofs.lemmas.List.{set-append_left}
 use Rattle.std.proofs.lemmas.List.Elements.{All-head, All-tail}
 use Rattle.obs_graph.specs.declared.Ends.{Ends}
-use Rattle.obs_graph.specs.Joined.{IsMerging}
+use Rattle.obs_graph.specs.inner.Joined.{IsMerging}
 use Rattle.obs_graph.proofs.MergedBy.{merged_by-nothing, merged_by-one}
 use Rattle.obs_graph.proofs.Present.{some_one}
 use Rattle.obs_switch.specs.declared.link.Link.{Link}
-use Rattle.obs_switch.specs.Buses.{bus_of, bus_under, bus_count, buses_of, first_node}
+use Rattle.obs_switch.specs.Buses.{bus_of, bus_count, buses_of, first_node}
+use Rattle.obs_switch.specs.inner.Buses.{bus_under}
 use Rattle.obs_switch.proofs.FirstNodes.{buses_of-at}
 use Rattle.obs_switch.proofs.OneMore.{bus_count-one_more, bus_under-node, buses_of-one_more, merges-one_more}
 use Rattle.obs_case.specs.declared.rows.Branch.{Branch}
@@ -29,7 +30,7 @@ use Rattle.obs_network.specs.Live.{live_ends}
 use Rattle.obs_network.specs.Angles.{angle_branches, has_angle, item_angle}
 use Rattle.obs_network.specs.Touching.{candidate_touches, meter_touch, meter_touches}
 use Rattle.obs_network.specs.Network.{case_absolute, case_angles, case_branches, case_component_count, case_components, case_energised, case_live, case_meters, case_offered, case_rows}
-use Rattle.obs_network.specs.Edited.{AreKept, AreMerged, IsOneMerge, IsReferenceMerge}
+use Rattle.obs_network.specs.inner.Edited.{AreKept, AreMerged, IsOneMerge, IsReferenceMerge}
 use Rattle.obs_network.proofs.MergedComponents.{AreRenamedOrMerged, IsOneMore, joins_followed, joins_one_more}
 use Rattle.obs_network.proofs.MergedRows.{InRange-present, one_more_row, row_ends, rows_followed, with_service}
 use Rattle.obs_network.proofs.MergedVertices.{kept_by_live, merged_kept, merged_vertices}

@@ -34,7 +34,8 @@ use Rattle.obs_network.specs.Components.{if_energised}
 use Rattle.obs_network.specs.Angles.{takes_angles}
 use Rattle.obs_network.specs.Network.{case_absolute, case_angles, case_branches, case_components, case_energised, case_live, case_meters, case_needed, case_rows, case_vertex_count}
 use Rattle.obs_network.specs.Observable.{IsObservableCase, IsRankOf, case_live_meters, case_rank}
-use Rattle.obs_network.specs.Parted.{IsParted, outage_case}
+use Rattle.obs_network.specs.Parted.{outage_case}
+use Rattle.obs_network.specs.inner.Parted.{IsParted}
 use Rattle.obs_network.proofs.Bridged.{OnSide, fed_along, fed_lit, fixed_same, lit_after, lit_fed, side_loose}
 use Rattle.obs_network.proofs.InComponents.{get_or-energised, live_ends-same, row_is_live}
 use Rattle.obs_network.proofs.KeptForests.{forest_with_branch}

@@ -12,11 +12,11 @@ use Rattle.obs_case.proofs.RowLemmas.{length-changed}
 use Rattle.obs_meter.specs.declared.Touch.{Touch}
 use Rattle.obs_meter.specs.declared.Touch.TheVariants.{Nothing}
 use Rattle.obs_meter.specs.Held.{Meters}
-use Rattle.obs_meter.specs.Touches.{AreInRange}
-use Rattle.obs_network.specs.Edited.{ChangesAlone, IsBeforeBranch}
+use Rattle.obs_meter.specs.inner.Touches.{AreInRange}
+use Rattle.obs_network.specs.inner.Edited.{ChangesAlone, IsBeforeBranch}
 use Rattle.obs_network.specs.declared.following.Change.{Change}
-use Rattle.obs_network.specs.Following.{AreListedFar, followed, followed_items, is_near}
-use Rattle.obs_network.specs.Kept.{list_of, lists_of}
+use Rattle.obs_network.specs.inner.Following.{AreListedFar, followed, followed_items, is_near}
+use Rattle.obs_network.specs.inner.Kept.{list_of, lists_of}
 use Rattle.obs_network.specs.Located.{touch_component}
 use Rattle.obs_network.specs.Switched.{case_bus_count, case_buses}
 use Rattle.obs_network.specs.Network.{Components, Network, case_angles, case_branches, case_live, case_meters, case_offered, case_rows, case_vertex_count, network_of}

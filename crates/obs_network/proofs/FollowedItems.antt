@@ -15,7 +15,7 @@ use Rattle.obs_meter.specs.declared.Touch.{Touch}
 use Rattle.obs_meter.specs.declared.Touch.TheVariants.{Nothing, Edge, Star, Front}
 use Rattle.obs_meter.specs.Spanned.{both_ends}
 use Rattle.obs_network.specs.Components.{vertex_component}
-use Rattle.obs_network.specs.Following.{followed, is_end, is_near}
+use Rattle.obs_network.specs.inner.Following.{followed, is_end, is_near}
 use Rattle.obs_network.specs.Located.{touch_component}
 use Rattle.obs_network.specs.Touching.{candidate_touch, candidate_touches, meter_touch, meter_touches, rows_at, touch_of}
 

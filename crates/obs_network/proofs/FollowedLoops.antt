@@ -8,10 +8,10 @@ use Rattle.obs_graph.specs.Graph.{Graph}
 use Rattle.obs_meter.specs.declared.Touch.{Touch}
 use Rattle.obs_meter.specs.declared.Touch.TheVariants.{Nothing}
 use Rattle.obs_meter.specs.Held.{Meters}
-use Rattle.obs_meter.specs.Touches.{AreInRange, IsInRange}
+use Rattle.obs_meter.specs.inner.Touches.{AreInRange, IsInRange}
 use Rattle.obs_network.specs.declared.following.Change.{Change}
-use Rattle.obs_network.specs.Following.{AreFollowed, AreListedFar, followed, followed_items, is_near}
-use Rattle.obs_network.specs.Kept.{Listed, list_of, lists_of}
+use Rattle.obs_network.specs.inner.Following.{AreFollowed, AreListedFar, followed, followed_items, is_near}
+use Rattle.obs_network.specs.inner.Kept.{Listed, list_of, lists_of}
 use Rattle.obs_network.specs.Located.{touch_component}
 use Rattle.obs_network.specs.Network.{Components}
 use Rattle.obs_network.proofs.FollowedItems.{followed_far}

@@ -7,12 +7,12 @@ use Rattle.obs_graph.specs.declared.Ends.{Ends}
 use Rattle.obs_graph.specs.Joined.{Chain}
 use Rattle.obs_graph.specs.Joined.Chain.{none, step}
 use Rattle.obs_graph.specs.Positions.{branches_at, has_end, present}
-use Rattle.obs_graph.specs.Search.{IsPart, Reaches}
+use Rattle.obs_graph.specs.inner.Search.{IsPart, Reaches}
 use Rattle.obs_graph.proofs.AtVertex.{branches_at-entry, positions_from_rise}
 use Rattle.obs_graph.proofs.Chains.{Chain-append}
 use Rattle.obs_graph.proofs.Expanding.{AreDone, done_absent, done_all, done_one}
 use Rattle.obs_graph.proofs.Present.{contains_present, none_some}
-use Rattle.obs_network.specs.Sides.{AreFollowedUpTo, HaveGrown, IsMeeting, IsQueueOf, label_at, rows_but}
+use Rattle.obs_network.specs.inner.Sides.{AreFollowedUpTo, HaveGrown, IsMeeting, IsQueueOf, label_at, rows_but}
 use Rattle.obs_network.proofs.Walking.{AreFollowedUpTo-push, HaveGrown-set, HaveGrown-then, IsQueueOf-push, label-kept}
 
 -- the rows but one are branches of the graph

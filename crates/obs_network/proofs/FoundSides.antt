@@ -7,15 +7,15 @@ use Rattle.obs_graph.specs.declared.Ends.{Ends}
 use Rattle.obs_graph.specs.Joined.{Chain, Leads}
 use Rattle.obs_graph.specs.Joined.Chain.{none, step}
 use Rattle.obs_graph.specs.Positions.{AreBranches, present}
-use Rattle.obs_graph.specs.Search.{AreBelow, Reaches}
+use Rattle.obs_graph.specs.inner.Search.{AreBelow, Reaches}
 use Rattle.obs_graph.proofs.Chains.{Chain-back, Leads-back}
 use Rattle.obs_graph.proofs.Neighbours.{reached_below}
 use Rattle.obs_graph.proofs.Present.{AreBelow-part, branch_at, none_some, present_contains, some_is_in, some_one}
 use Rattle.obs_matroid.specs.Lists.{In, IsDistinct}
 use Rattle.obs_matroid.proofs.Contained.{All-from_In, Contains-from_In, In-get_or, IsDistinct-from_pairs}
 use Rattle.obs_network.specs.declared.sides.Walked.{Walked}
-use Rattle.obs_network.specs.Parted.{AreJoinedWithout, IsSide, IsSideOf}
-use Rattle.obs_network.specs.Sides.{AreClear, AreFollowedUpTo, AreWalked, IsQueueOf, label_at, rows_but}
+use Rattle.obs_network.specs.inner.Parted.{AreJoinedWithout, IsSide, IsSideOf}
+use Rattle.obs_network.specs.inner.Sides.{AreClear, AreFollowedUpTo, AreWalked, IsQueueOf, label_at, rows_but}
 use Rattle.obs_network.proofs.FollowedRows.{rows_but-IsPart}
 use Rattle.obs_network.proofs.Walking.{one_label}
 

@@ -7,7 +7,7 @@ use Rattle.std.proofs.lemmas.List.Sums.{count_by-le-length, length-filter, sum-m
 use Rattle.std.proofs.lemmas.List.FromFn.{get_or-map-range_with_len, length-map-range_with_len}
 use Rattle.obs_graph.specs.declared.Ends.{Ends}
 use Rattle.obs_network.specs.Components.{component_count, component_of, components_of, sizes_of}
-use Rattle.obs_network.specs.Kept.{AreGrouped}
+use Rattle.obs_network.specs.inner.Kept.{AreGrouped}
 use Rattle.obs_network.proofs.Numbered.{component_at, components_of-at}
 use Rattle.obs_network.proofs.Parted.{parts_few}
 

@@ -10,7 +10,7 @@ use Rattle.obs_graph.proofs.Chains.{first_joined-contains}
 use Rattle.obs_graph.proofs.Present.{branch_at, contains_present, some_is_in, some_one}
 use Rattle.obs_case.specs.Tables.{Tables, IsValid}
 use Rattle.obs_matroid.specs.Lists.{In}
-use Rattle.obs_matroid.specs.Components.{IsSumOfKinds}
+use Rattle.obs_matroid.specs.inner.Components.{IsSumOfKinds}
 use Rattle.obs_matroid.proofs.Components.{IsSumOfKinds-graphic}
 use Rattle.obs_meter.specs.declared.Touch.{Touch}
 use Rattle.obs_meter.specs.declared.Touch.TheVariants.{Nothing}

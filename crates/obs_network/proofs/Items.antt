@@ -16,7 +16,7 @@ use Rattle.obs_case.specs.Items.{angle_flags, is_angle, is_angle_kind}
 use Rattle.obs_case.specs.Tables.{Tables, IsValid, places}
 use Rattle.obs_meter.specs.declared.Touch.{Touch}
 use Rattle.obs_meter.specs.declared.Touch.TheVariants.{Nothing}
-use Rattle.obs_meter.specs.Touches.{IsInRange, AreInRange}
+use Rattle.obs_meter.specs.inner.Touches.{IsInRange, AreInRange}
 use Rattle.obs_network.specs.Switched.{case_buses}
 use Rattle.obs_network.specs.Angles.{has_angle}
 use Rattle.obs_network.specs.Touching.{candidate_touch, candidate_touches, meter_touch, meter_touches, touch_of}

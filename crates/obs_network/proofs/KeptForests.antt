@@ -5,7 +5,8 @@ use Rattle.std.specs.List.{cons_option}
 use Rattle.std.proofs.lemmas.Bool.{cases_eq, cases_lt}
 use Rattle.std.proofs.lemmas.List.Elements.{All-cons, All-tail}
 use Rattle.obs_graph.specs.declared.Ends.{Ends}
-use Rattle.obs_graph.specs.Joined.{AreMergedBy, InRange, IsForest, first_joined, rank, renamed, renamed_one}
+use Rattle.obs_graph.specs.Joined.{IsForest, first_joined, rank}
+use Rattle.obs_graph.specs.inner.Joined.{AreMergedBy, InRange, renamed, renamed_one}
 use Rattle.obs_graph.specs.Positions.{AreBranches, IsForestAt, ends_of}
 use Rattle.obs_graph.proofs.AtPositions.{IsForestAt-by_rank, ends_of-contains, length-ends_of, rank-from_IsForestAt, there_at}
 use Rattle.obs_graph.proofs.Chains.{Chain-from_same_first, same_from_Chain}
@@ -19,7 +20,7 @@ use Rattle.obs_meter.specs.Spanned.{both_ends, ends_at, rank_at}
 use Rattle.obs_meter.proofs.Instance.{in_range}
 use Rattle.obs_network.specs.Angles.{reference_of}
 use Rattle.obs_network.specs.Network.{case_branches, case_components, case_vertex_component, case_vertex_count}
-use Rattle.obs_network.specs.Edited.{AreKept, AreMerged, ArePresent, AreRenamed, IsOneMerge, IsReferenceMerge, reference_vertex, references}
+use Rattle.obs_network.specs.inner.Edited.{AreKept, AreMerged, ArePresent, AreRenamed, IsOneMerge, IsReferenceMerge, reference_vertex, references}
 use Rattle.obs_network.proofs.InComponents.{ends_component}
 use Rattle.obs_network.proofs.OfCase.{case_branches-are}
 use Rattle.obs_network.proofs.Vertices.{case_vertex_component-bus, vertex_component-reference}

@@ -24,9 +24,10 @@ use Rattle.obs_meter.proofs.Touched.{live-from_In, touched-present}
 use Rattle.obs_switch.specs.Groups.{items_with}
 use Rattle.obs_network.specs.Network.{Components, Network, case_branches, case_component_count, case_components, case_meters, case_offered, case_vertex_component, network_of}
 use Rattle.obs_network.specs.Components.{vertex_component}
-use Rattle.obs_network.specs.Located.{component_of_branch, component_of_item, ends_component, is_meter_in, live_meters_of, touch_component}
+use Rattle.obs_network.specs.Located.{component_of_item, touch_component}
+use Rattle.obs_network.specs.inner.Located.{component_of_branch, ends_component, is_meter_in, live_meters_of}
 use Rattle.obs_network.specs.Observable.{branch_component, case_live_meters, is_energised_component, item_component}
-use Rattle.obs_network.specs.Kept.{list_of, lists_of}
+use Rattle.obs_network.specs.inner.Kept.{list_of, lists_of}
 use Rattle.obs_network.proofs.InComponents.{branch_component-below, placed, present_energised, touched_component}
 use Rattle.obs_network.proofs.Marked.{filtered_below}
 

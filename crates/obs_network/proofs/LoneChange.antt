@@ -15,8 +15,9 @@ use Rattle.obs_case.proofs.ValidLemmas.{valid-with_branch_inservice}
 use Rattle.obs_network.specs.Switched.{case_bus_count}
 use Rattle.obs_network.specs.Components.{if_energised}
 use Rattle.obs_network.specs.Network.{Network, Rows, case_angles, case_branches, case_components, case_energised, case_live, case_rows, case_vertex_count, network_of, rows_of}
-use Rattle.obs_network.specs.Edited.{AreSameBut, ChangesAlone, IsBeforeBranch}
-use Rattle.obs_network.specs.Parted.{StaysJoined, outage_case}
+use Rattle.obs_network.specs.inner.Edited.{AreSameBut, ChangesAlone, IsBeforeBranch}
+use Rattle.obs_network.specs.Parted.{outage_case}
+use Rattle.obs_network.specs.inner.Parted.{StaysJoined}
 use Rattle.obs_network.proofs.Edited.{branch_is}
 use Rattle.obs_network.proofs.Fronts.{rows_are_first}
 use Rattle.obs_network.proofs.OfCase.{IsBranch, case_live-branches, case_vertex_count-le, length-case_branches, length-case_live, length-case_rows}

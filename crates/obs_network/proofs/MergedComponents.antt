@@ -4,7 +4,8 @@ use Rattle.std.specs.Prelude.{slice_index_or}
 use Rattle.std.proofs.lemmas.Bool.{cases_eq}
 use Rattle.std.proofs.lemmas.List.Elements.{All-cons, All-nil}
 use Rattle.obs_graph.specs.declared.Ends.{Ends}
-use Rattle.obs_graph.specs.Joined.{AreMergedBy, InRange, count_below, first_joined, renamed, renamed_one}
+use Rattle.obs_graph.specs.Joined.{count_below, first_joined}
+use Rattle.obs_graph.specs.inner.Joined.{AreMergedBy, InRange, renamed, renamed_one}
 use Rattle.obs_graph.specs.Positions.{present}
 use Rattle.obs_graph.proofs.Chains.{Contains-cases, Contains-here, Contains-there, Chain-from_same_first, first_joined-contains, same_first-from_Chain, same_first-more, same_from_Chain}
 use Rattle.obs_graph.proofs.First.{first_joined-first_joined, first_joined-le}

@@ -5,7 +5,7 @@ use Rattle.std.specs.List.{cons_option}
 use Rattle.std.proofs.lemmas.Bool.{cases_Bool, cases_eq, and_from, and_parts, cond-true, cond-false, eq-eqb, ne_eqb}
 use Rattle.std.proofs.lemmas.List.Elements.{All-cons, All-head, All-nil, All-tail}
 use Rattle.obs_graph.specs.declared.Ends.{Ends}
-use Rattle.obs_graph.specs.Joined.{InRange, renamed_one}
+use Rattle.obs_graph.specs.inner.Joined.{InRange, renamed_one}
 use Rattle.obs_graph.specs.Positions.{AreBranches, present}
 use Rattle.obs_graph.proofs.Present.{none_some}
 use Rattle.obs_case.specs.declared.rows.Branch.{Branch}

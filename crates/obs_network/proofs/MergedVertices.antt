@@ -1,14 +1,14 @@
 -- Buses that become one, and with them the reference vertices of their components.
 use Rattle.std.proofs.Common.{◌≡◌, ℕ, ◌+◌, ◌<◌, List, [], ◌∷◌, ◌++◌, length, get_or, sym, ap, ◌∙◌, subst, arith}
 use Rattle.obs_graph.specs.declared.Ends.{Ends}
-use Rattle.obs_graph.specs.Joined.{AreMergedBy, beside, renamed_one}
+use Rattle.obs_graph.specs.inner.Joined.{AreMergedBy, beside, renamed_one}
 use Rattle.obs_graph.specs.Positions.{present}
 use Rattle.obs_graph.proofs.MergedBy.{beside-low, beside-shifted, merged_beside, merged_by-nothing}
 use Rattle.obs_case.specs.Tables.{Tables, IsValid}
 use Rattle.obs_network.specs.Switched.{case_bus_count, case_buses}
 use Rattle.obs_network.specs.Components.{component_count, component_of, components_of}
 use Rattle.obs_network.specs.Network.{case_component_count, case_components, case_live, case_vertex_count}
-use Rattle.obs_network.specs.Edited.{AreKept, AreMerged, reference_vertex, references}
+use Rattle.obs_network.specs.inner.Edited.{AreKept, AreMerged, reference_vertex, references}
 use Rattle.obs_network.proofs.MergedComponents.{JoinsWith, component_under, component_under-of, merged_components}
 use Rattle.obs_network.proofs.OfCase.{case_bus-below, length-case_components}
 use Rattle.obs_network.proofs.OfLaws.{case_component-at}

@@ -7,7 +7,8 @@ use Rattle.std.proofs.lemmas.List.{map-append}
 use Rattle.obs_graph.specs.Positions.{present, sum_below}
 use Rattle.obs_case.specs.Tables.{Tables, IsValid}
 use Rattle.obs_matroid.specs.Lists.{In, IsDistinct}
-use Rattle.obs_matroid.specs.Matroid.{IsMatroid, IsIndependent}
+use Rattle.obs_matroid.specs.Matroid.{IsIndependent}
+use Rattle.obs_matroid.specs.inner.Matroid.{IsMatroid}
 use Rattle.obs_matroid.specs.Assignments.{Pair, branches, items}
 use Rattle.obs_matroid.proofs.Lists.{In-filter, In-filter_from, In-append_cases, IsDistinct-append, IsDistinct-filter}
 use Rattle.obs_matroid.proofs.Bounds.{length-branches}

@@ -7,7 +7,8 @@ use Rattle.std.proofs.lemmas.List.Elements.{All-append, All-cons, All-head, All-
 use Rattle.std.proofs.lemmas.List.FromFn.{length-map-range_with_len}
 use Rattle.obs_graph.specs.declared.Ends.{Ends}
 use Rattle.obs_graph.specs.Positions.{AreBranches, present}
-use Rattle.obs_switch.specs.Buses.{LinksBelow, bus_of}
+use Rattle.obs_switch.specs.Buses.{bus_of}
+use Rattle.obs_switch.specs.inner.Buses.{LinksBelow}
 use Rattle.obs_switch.proofs.FirstNodes.{buses_of-at, bus_of-below, bus_count-le}
 use Rattle.obs_case.specs.declared.rows.Branch.{Branch}
 use Rattle.obs_case.specs.declared.rows.Candidate.{Candidate}
@@ -23,7 +24,8 @@ use Rattle.obs_network.specs.Angles.{angle_branches, bus_angle, has_angle, item_
 use Rattle.obs_network.specs.Touching.{candidate_touches, meter_touches}
 use Rattle.obs_network.proofs.Marked.{length-first_buses_of}
 use Rattle.obs_network.proofs.Numbered.{component_count-le, component_of-below, components_of-at}
-use Rattle.obs_network.specs.Network.{Network, case_absolute, case_angles, case_branches, case_component_count, case_components, case_energised, case_first_buses, case_item_count, case_live, case_meters, case_need, case_offered, case_position_count, case_position_room, case_rows, case_vertex_count, case_vertex_room, network_of}
+use Rattle.obs_network.specs.Network.{Network, case_absolute, case_angles, case_branches, case_component_count, case_components, case_energised, case_first_buses, case_item_count, case_live, case_meters, case_need, case_offered, case_position_room, case_rows, case_vertex_count, case_vertex_room, network_of}
+use Rattle.obs_network.specs.inner.Network.{case_position_count}
 
 -- closed switches join nodes of the case
 closed-below : (n : ℕ) (switches : List Switch) → All (λ row. (row.from < n) × (row.to < n)) switches → LinksBelow n (closed_links switches)

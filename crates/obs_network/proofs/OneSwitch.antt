@@ -21,7 +21,7 @@ use Rattle.obs_network.specs.Live.{live_branches}
 use Rattle.obs_network.specs.Components.{absolute_of, component_count, components_of, energised_branches, energised_of, first_buses_of, needed_of, sizes_of}
 use Rattle.obs_network.specs.Angles.{angle_branches, has_angle}
 use Rattle.obs_network.specs.Touching.{meter_touches, offered_touches}
-use Rattle.obs_network.specs.Edited.{IsBeforeSwitch}
+use Rattle.obs_network.specs.inner.Edited.{IsBeforeSwitch}
 use Rattle.obs_network.proofs.Edited.{OneMore, as_it_is, link_at, links_of, one_more, same_buses, same_count}
 use Rattle.obs_network.proofs.OfCase.{length-case_buses}
 use Rattle.obs_network.proofs.OfLaws.{changed_at-twice, item-changed_at, length-changed_at, rows-with_closed}

@@ -9,11 +9,13 @@ use Rattle.obs_graph.proofs.Chains.{Leads-back, same_first-from_Chain}
 use Rattle.obs_case.specs.Tables.{IsValid, Tables}
 use Rattle.obs_matroid.specs.Lists.{In}
 use Rattle.obs_network.specs.Switched.{case_bus_count, case_buses}
-use Rattle.obs_network.specs.Components.{is_source, source_nodes}
-use Rattle.obs_network.specs.Located.{ends_component}
+use Rattle.obs_network.specs.Components.{is_source}
+use Rattle.obs_network.specs.inner.Components.{source_nodes}
+use Rattle.obs_network.specs.inner.Located.{ends_component}
 use Rattle.obs_network.specs.Network.{case_angles, case_branches, case_component_count, case_components, case_needed, case_rows, case_sizes}
 use Rattle.obs_network.specs.Observable.{is_absolute_component}
-use Rattle.obs_network.specs.Parted.{HasSource, HasSourceBeside, IsParted, IsSideOf, outage_case}
+use Rattle.obs_network.specs.Parted.{outage_case}
+use Rattle.obs_network.specs.inner.Parted.{HasSource, HasSourceBeside, IsParted, IsSideOf}
 use Rattle.obs_network.proofs.Bridged.{IsFed, falls_one, falls_side, first_is, lit_source, of_side}
 use Rattle.obs_network.proofs.InComponents.{row_is_live, live_ends-same}
 use Rattle.obs_network.proofs.NeededCount.{is_fixed, live_ends_of, of_component, size_is}

@@ -10,9 +10,9 @@ use Rattle.obs_network.specs.Switched.{case_bus_count, case_buses}
 use Rattle.obs_network.specs.Network.{Components, Network, case_absolute, case_branches, case_component_count, case_components, case_energised, case_first_buses, case_live, case_meters, case_needed, case_offered, case_sizes, case_vertex_count, network_of}
 use Rattle.obs_graph.specs.Graph.{Graph}
 use Rattle.obs_meter.specs.Held.{Meters}
-use Rattle.obs_network.specs.Kept.{list_of, lists_of}
+use Rattle.obs_network.specs.inner.Kept.{list_of, lists_of}
 use Rattle.obs_network.specs.Located.{touch_component}
-use Rattle.obs_network.specs.Edited.{IsBeforeMeter}
+use Rattle.obs_network.specs.inner.Edited.{IsBeforeMeter}
 use Rattle.obs_network.proofs.Edited.{branches-with_meter, meters-with_meter, offered-with_meter}
 use Rattle.obs_network.proofs.OfCase.{length-case_meters, length-case_offered}
 use Rattle.obs_network.proofs.OfLaws.{length-changed_at, rows-with_meter}

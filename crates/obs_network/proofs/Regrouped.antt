@@ -3,7 +3,7 @@ use Rattle.std.proofs.Common.{◌≡◌, ℕ, suc, ◌+◌, ◌<◌, ◌≤◌, 
 use Rattle.std.proofs.Math.Seq.{take-append_seam}
 use Rattle.std.proofs.lemmas.Bool.{cases_eq}
 use Rattle.std.proofs.lemmas.List.{get_or-set_other, get_or-set_same, get_or-take, get_or_append_left, length-set, length-take-le}
-use Rattle.obs_switch.specs.Groups.{AreGroups}
+use Rattle.obs_switch.specs.inner.Groups.{AreGroups}
 
 -- the front of a list that was put together
 pub front_of : (n : ℕ) (keys rest : List ℕ) → length keys ≡ n → take n (keys ++ rest) ≡ keys

@@ -5,7 +5,7 @@ use Rattle.std.proofs.lemmas.Bool.{cases_Bool, cond-true, cond-false}
 use Rattle.std.proofs.lemmas.List.{length-map}
 use Rattle.std.proofs.lemmas.List.Elements.{All-head, All-tail}
 use Rattle.obs_graph.specs.declared.Ends.{Ends}
-use Rattle.obs_graph.specs.Joined.{renamed_one}
+use Rattle.obs_graph.specs.inner.Joined.{renamed_one}
 use Rattle.obs_graph.proofs.Present.{some_one, none_some}
 use Rattle.obs_case.specs.declared.rows.Branch.{Branch}
 use Rattle.obs_case.specs.Tables.{Tables, IsValid}
@@ -13,7 +13,7 @@ use Rattle.obs_network.specs.Switched.{case_buses}
 use Rattle.obs_network.specs.Live.{is_live_branch, live_ends}
 use Rattle.obs_network.specs.Components.{if_energised}
 use Rattle.obs_network.specs.Network.{case_branches, case_components, case_energised, case_live, case_rows}
-use Rattle.obs_network.specs.Edited.{AreRenamed, reference_vertex}
+use Rattle.obs_network.specs.inner.Edited.{AreRenamed, reference_vertex}
 use Rattle.obs_network.proofs.Vertices.{IsAngleBranch, item_sites, row_or_angle}
 
 -- the two buses of a row

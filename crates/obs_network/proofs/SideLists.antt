@@ -17,7 +17,8 @@ use Rattle.obs_network.specs.Switched.{case_bus_count}
 use Rattle.obs_network.specs.Components.{if_energised}
 use Rattle.obs_network.specs.Network.{case_components, case_energised, case_live, case_rows}
 use Rattle.obs_network.specs.Observable.{is_energised_component}
-use Rattle.obs_network.specs.Parted.{IsSideOf, outage_case}
+use Rattle.obs_network.specs.Parted.{outage_case}
+use Rattle.obs_network.specs.inner.Parted.{IsSideOf}
 use Rattle.obs_network.proofs.InComponents.{get_or-energised, live_ends-same, row_is_live}
 use Rattle.obs_network.proofs.Marked.{length-passing}
 use Rattle.obs_network.proofs.NeededCount.{live_ends_of}

@@ -20,7 +20,8 @@ use Rattle.obs_network.specs.Live.{live_ends}
 use Rattle.obs_network.specs.Components.{absolute_of, energised_of, if_energised, needed_of, sizes_of}
 use Rattle.obs_network.specs.Angles.{angle_branches, has_angle}
 use Rattle.obs_network.specs.Network.{case_absolute, case_angles, case_branches, case_component_count, case_components, case_energised, case_first_buses, case_live, case_needed, case_rows, case_sizes}
-use Rattle.obs_network.specs.Parted.{AreJoinedWithout, StaysJoined, outage_case}
+use Rattle.obs_network.specs.Parted.{outage_case}
+use Rattle.obs_network.specs.inner.Parted.{AreJoinedWithout, StaysJoined}
 use Rattle.obs_network.proofs.MergedRows.{with_service}
 use Rattle.obs_network.proofs.OfCase.{case_live-branches, length-case_rows}
 use Rattle.obs_network.proofs.OfLaws.{one_case_component}

@@ -19,8 +19,9 @@ use Rattle.obs_meter.proofs.Touched.{In-from_any, any-from_In, itself_from, star
 use Rattle.obs_network.specs.Switched.{case_bus_count, case_buses}
 use Rattle.obs_network.specs.Touching.{meter_touch, meter_touches, touch_of}
 use Rattle.obs_network.specs.Network.{case_angles, case_branches, case_meters, case_rows, network_of}
-use Rattle.obs_network.specs.Edited.{AreSameBut}
-use Rattle.obs_network.specs.Parted.{StaysJoined, outage_case}
+use Rattle.obs_network.specs.inner.Edited.{AreSameBut}
+use Rattle.obs_network.specs.Parted.{outage_case}
+use Rattle.obs_network.specs.inner.Parted.{StaysJoined}
 use Rattle.obs_network.proofs.Items.{meter_touches-at, some_row}
 use Rattle.obs_network.proofs.OfCase.{length-case_rows, length-meter_touches}
 use Rattle.obs_network.proofs.Spared.{absolute_stay, angles_stay, branches_but_one, component_count_stays, components_stay, energised_stay, first_buses_stay, needed_stays, rows_but_one, sizes_stay}

@@ -7,7 +7,7 @@ use Rattle.obs_graph.specs.Joined.Chain.{none}
 use Rattle.obs_graph.specs.Positions.{present}
 use Rattle.obs_graph.proofs.Chains.{Chain-append, Chain-back}
 use Rattle.obs_network.specs.declared.sides.Walked.{Walked}
-use Rattle.obs_network.specs.Sides.{AreClear, AreFollowedUpTo, AreWalked, HaveGrown, IsMeeting, IsQueueOf, label_at}
+use Rattle.obs_network.specs.inner.Sides.{AreClear, AreFollowedUpTo, AreWalked, HaveGrown, IsMeeting, IsQueueOf, label_at}
 use Rattle.obs_network.proofs.Walking.{AreFollowedUpTo-grown, HaveGrown-set, IsQueueOf-grown, IsQueueOf-none, IsQueueOf-push, label-kept, label-older, no_label, one_label}
 
 -- both ends are reached from themselves

@@ -27,7 +27,7 @@ use Rattle.obs_network.specs.Components.{if_energised}
 use Rattle.obs_network.specs.Angles.{has_angle, item_angle, reference_of, takes_angles}
 use Rattle.obs_network.specs.Touching.{candidate_touch, candidate_touches, meter_touch, meter_touches, touch_of}
 use Rattle.obs_network.specs.Network.{case_absolute, case_angles, case_branches, case_components, case_energised, case_item_count, case_live, case_offered, case_rows}
-use Rattle.obs_network.specs.Standing.{IsPresentAngle, IsPresentRow, IsRowAt, Touches, ItemRow, StandsAt, candidate_row, item_rows, meter_row}
+use Rattle.obs_network.specs.inner.Standing.{IsPresentAngle, IsPresentRow, IsRowAt, Touches, ItemRow, StandsAt, candidate_row, item_rows, meter_row}
 use Rattle.obs_network.proofs.OfCase.{length-case_offered, length-case_rows, length-meter_touches}
 use Rattle.obs_network.proofs.Items.{candidate_touches-at, has_angle-from, is_angle-candidate, is_angle-meter, meter_touches-at, some_row}
 use Rattle.obs_network.proofs.Vertices.{angle_branch-at, item_sites}

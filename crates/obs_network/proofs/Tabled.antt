@@ -11,11 +11,12 @@ use Rattle.obs_switch.proofs.FirstNodes.{buses_of-at, one_bus}
 use Rattle.obs_case.specs.declared.rows.Node.{Node}
 use Rattle.obs_case.specs.declared.rows.Switch.{Switch}
 use Rattle.obs_case.specs.Tables.{Tables}
-use Rattle.obs_network.specs.Switched.{IsClosedSwitch, case_buses, closed_links}
+use Rattle.obs_network.specs.Switched.{case_buses, closed_links}
+use Rattle.obs_network.specs.inner.Switched.{IsClosedSwitch}
 use Rattle.obs_network.specs.Components.{is_absolute_node, is_marked, is_source, marked_nodes, marked_of}
 use Rattle.obs_network.specs.Network.{case_absolute, case_component_count, case_components, case_energised}
 use Rattle.obs_network.specs.Observable.{is_absolute_component, is_energised_component}
-use Rattle.obs_network.specs.Standing.{HasMarkedNode}
+use Rattle.obs_network.specs.inner.Standing.{HasMarkedNode}
 use Rattle.obs_network.proofs.OfLaws.{marked_by_a_node}
 
 pub one_case_bus : (t : Tables) (u v : ℕ) → u < length t.nodes → v < length t.nodes

@@ -20,7 +20,7 @@ use Rattle.obs_case.specs.Tables.{Tables, IsValid, places}
 use Rattle.obs_network.specs.Switched.{case_bus_count, case_buses}
 use Rattle.obs_network.specs.Components.{vertex_component}
 use Rattle.obs_network.specs.Angles.{bus_angle, has_angle, item_angle, reference_of, takes_angles}
-use Rattle.obs_network.specs.Edited.{reference_vertex}
+use Rattle.obs_network.specs.inner.Edited.{reference_vertex}
 use Rattle.obs_network.specs.Network.{case_absolute, case_angles, case_branches, case_component_count, case_components, case_energised, case_item_count, case_live, case_need, case_rows, case_sizes, case_vertex_component, case_vertex_count}
 use Rattle.obs_network.specs.Observable.{is_absolute_component, is_vertex_of}
 use Rattle.obs_network.proofs.Grouping.{size-some, sizes_of-at}

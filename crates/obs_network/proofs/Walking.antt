@@ -5,9 +5,9 @@ use Rattle.std.proofs.lemmas.List.{get_or-set_other, get_or-set_same, length-set
 use Rattle.obs_graph.specs.declared.Ends.{Ends}
 use Rattle.obs_graph.specs.Joined.{Chain, count_below}
 use Rattle.obs_graph.specs.Positions.{present}
-use Rattle.obs_graph.specs.Search.{Reaches}
+use Rattle.obs_graph.specs.inner.Search.{Reaches}
 use Rattle.obs_graph.proofs.Counts.{count_below-agree, count_below-le-n, count_below-none, count_below-one_more}
-use Rattle.obs_network.specs.Sides.{AreFollowedUpTo, HaveGrown, IsQueueOf, is_from, label_at}
+use Rattle.obs_network.specs.inner.Sides.{AreFollowedUpTo, HaveGrown, IsQueueOf, is_from, label_at}
 
 -- two labels of one vertex are the same
 pub one_label : (o : Option ℕ) (u w : ℕ) → o ≡ Some u → o ≡ Some w → u ≡ w

@@ -28,7 +28,7 @@ use Rattle.obs_network.specs.Components.{is_absolute_node, is_marked}
 use Rattle.obs_network.specs.Angles.{has_angle, item_angle, takes_angles}
 use Rattle.obs_network.specs.Touching.{candidate_touch, candidate_touches, meter_touch, meter_touches, touch_of}
 use Rattle.obs_network.specs.Network.{case_absolute, case_angles, case_branches, case_component_count, case_components, case_energised, case_live, case_need, case_offered, case_rows, case_sizes}
-use Rattle.obs_network.specs.Plain.{HasNoAbsolute, other_touches_in_order, touches_in_order, without_angles}
+use Rattle.obs_network.specs.inner.Plain.{HasNoAbsolute, other_touches_in_order, touches_in_order, without_angles}
 use Rattle.obs_network.proofs.Items.{item_at, length-angle_flags}
 use Rattle.obs_network.proofs.OfCase.{length-case_offered, length-case_rows, length-meter_touches}
 

@@ -3,15 +3,15 @@ use Rattle.std.proofs.Common.{◌≡◌, ◌+◌, ◌*◌, ◌≤◌, ℕ, Optio
 use Rattle.std.proofs.lemmas.List.Elements.{All-nil}
 use Rattle.obs_graph.specs.declared.Ends.{Ends}
 use Rattle.obs_graph.specs.Graph.{Graph}
-use Rattle.obs_graph.specs.Search.{State, room_of}
+use Rattle.obs_graph.specs.inner.Search.{State, room_of}
 use Rattle.obs_switch.specs.declared.link.Link.{Link}
 use Rattle.obs_switch.specs.Held.{Buses}
 use Rattle.obs_meter.specs.declared.Touch.{Touch}
 use Rattle.obs_meter.specs.Held.{Meters}
-use Rattle.obs_meter.specs.Touches.{IsInRange}
-use Rattle.obs_network.specs.Kept.{AreParts, Listed}
+use Rattle.obs_meter.specs.inner.Touches.{IsInRange}
+use Rattle.obs_network.specs.inner.Kept.{AreParts, Listed}
 use Rattle.obs_network.specs.Network.{Components}
-use Rattle.obs_network.specs.Sides.{Sides}
+use Rattle.obs_network.specs.inner.Sides.{Sides}
 
 abbrev pub no_buses : ℕ → Buses
 no_buses most = record { buses = []; count = 0; most_nodes = most }

@@ -2,13 +2,9 @@
 use Rattle.std.specs.Prelude.{ℕ, ◌-◌, ◌==◌, Bool, false, nat_lt, if◌then◌else◌, Option, Some, None, List, length, map, filter, count_by, slice_index, slice_index_or}
 use Rattle.std.specs.List.{list_any, range_with_len}
 use Rattle.obs_graph.specs.declared.Ends.{Ends}
-use Rattle.obs_graph.specs.Joined.{Chain, count_below, first_joined}
+use Rattle.obs_graph.specs.Joined.{count_below, first_joined}
 use Rattle.obs_graph.specs.Positions.{positions_from, sum_below}
 use Rattle.obs_case.specs.declared.rows.Node.{Node}
-
--- two buses are in one component: a chain of live branches leads from the one to the other, or they are equal
-abbrev pub AreOneComponent : List Ends → ℕ → ℕ → Type 0
-AreOneComponent live b c = Chain live b c
 
 -- the first bus of a bus's component, which names it
 abbrev pub first_bus : List Ends → ℕ → ℕ
@@ -57,14 +53,6 @@ is_source row = row.source
 -- whether a node's component is to be estimated against the common time reference
 abbrev pub is_absolute_node : Node → Bool
 is_absolute_node row = row.absolute
-
--- the nodes that are fed from outside
-abbrev pub source_nodes : List Node → List ℕ
-source_nodes nodes = marked_nodes is_source nodes
-
--- whether a component is energised: one of its nodes is a source
-abbrev pub is_energised : List ℕ → List ℕ → List Node → ℕ → Bool
-is_energised components buses nodes c = is_marked is_source components buses nodes c
 
 -- which of so many components are energised
 abbrev pub energised_of : ℕ → List ℕ → List ℕ → List Node → List Bool

@@ -6,11 +6,5 @@ pub mod Touching
 pub mod Network
 pub mod Located
 pub mod Parted
-pub mod Sides
-pub mod Bridges
-pub mod Kept
 pub mod Observable
-pub mod Plain
-pub mod Edited
-pub mod Standing
-pub mod Following
+pub mod inner

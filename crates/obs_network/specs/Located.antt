@@ -1,37 +1,19 @@
 -- Where branches and items lie: in the component in which all lies that they touch. `components` has the component of
 -- each bus, and `ends` the ends of the branches by position.
-use Rattle.std.specs.Prelude.{ℕ, ◌==◌, Bool, nat_lt, if◌then◌else◌, Option, Some, None, List, length, filter, slice_index_or}
+use Rattle.std.specs.Prelude.{ℕ, nat_lt, if◌then◌else◌, Option, Some, None, List, length, slice_index_or}
 use Rattle.obs_graph.specs.declared.Ends.{Ends}
 use Rattle.obs_meter.specs.declared.Touch.{Touch}
 use Rattle.obs_meter.specs.declared.Touch.TheVariants.{Nothing}
 use Rattle.obs_meter.specs.Spanned.{common_vertex}
-use Rattle.obs_meter.specs.Touches.{live_items, touched}
+use Rattle.obs_meter.specs.Touches.{touched}
 use Rattle.obs_network.specs.Components.{vertex_component}
 use Rattle.obs_network.specs.Network.{Network}
-
--- the component of the branch with these ends, and none of an absent one
-abbrev pub ends_component : List ℕ → Option Ends → Option ℕ
-ends_component components None = None
-ends_component components (Some e) = Some (vertex_component components e.a)
 
 -- the component of what is touched so, and none where that is nothing
 abbrev pub touch_component : List ℕ → List (Option Ends) → Touch → Option ℕ
 touch_component components ends touch =
     if nat_lt 0 (length (touched ends touch)) then Some (vertex_component components (common_vertex ends touch)) else None
 
--- the component of the branch at a position
-abbrev pub component_of_branch : Network → ℕ → Option ℕ
-component_of_branch n e = ends_component n.components.of_buses (slice_index_or n.graph.ends e None)
-
 -- the component of a meter, or of a candidate behind all meters
 abbrev pub component_of_item : Network → ℕ → Option ℕ
 component_of_item n m = touch_component n.components.of_buses n.graph.ends (slice_index_or n.offered.touches m Nothing)
-
--- whether what a meter touches lies in a component
-abbrev pub is_meter_in : Network → ℕ → ℕ → Bool
-is_meter_in n c m =
-    vertex_component n.components.of_buses (common_vertex n.graph.ends (slice_index_or n.meters.touches m Nothing)) == c
-
--- the live meters of a component
-abbrev pub live_meters_of : Network → ℕ → List ℕ
-live_meters_of n c = filter (is_meter_in n c) (live_items n.graph.ends n.meters.touches)

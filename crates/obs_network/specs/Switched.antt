@@ -1,5 +1,5 @@
 -- The buses of a case: what its closed switches join.
-use Rattle.std.specs.Prelude.{◌≡◌, ℕ, true, List, [], ◌∷◌, Contains, length, if◌then◌else◌}
+use Rattle.std.specs.Prelude.{ℕ, List, [], ◌∷◌, length, if◌then◌else◌}
 use Rattle.obs_case.specs.declared.rows.Switch.{Switch}
 use Rattle.obs_case.specs.Tables.{Tables}
 use Rattle.obs_switch.specs.declared.link.Link.{Link}
@@ -9,14 +9,6 @@ use Rattle.obs_switch.specs.Buses.{buses_of, bus_count, first_node}
 abbrev pub closed_links : List Switch → List Link
 closed_links [] = []
 closed_links (s ∷ switches) = if s.closed then record { from = s.from; to = s.to } ∷ closed_links switches else closed_links switches
-
--- a link leads from the one node of a closed switch to the other
-pub record IsClosedSwitch (switches : List Switch) (l : Link) : Type 0 where
-  pub row : Switch
-  pub listed : Contains switches row
-  pub closed : row.closed ≡ true
-  pub from : l.from ≡ row.from
-  pub to : l.to ≡ row.to
 
 -- the bus of each node of a case
 abbrev pub case_buses : Tables → List ℕ

@@ -2,7 +2,7 @@
 ghost use Rattle.std.specs.Prelude.{◌≡◌, ◌≢◌, ◌<◌, ◌≤◌, IfSome, IsTrue, None, false, length, slice_index, slice_index_or, slice_set, take, true};
 ghost use Rattle.obs_network.specs.Switched.{case_buses};
 ghost use Rattle.obs_network.specs.Network.{case_live};
-ghost use Rattle.obs_network.specs.Edited.{ChangesAlone};
+ghost use Rattle.obs_network.specs.inner.Edited.{ChangesAlone};
 
 use crate::components::Components;
 use crate::live::ends_of;

@@ -4,7 +4,8 @@ ghost use Rattle.std.specs.List.{list_any};
 ghost use Rattle.obs_case.specs.Items.{is_angle_kind};
 ghost use Rattle.obs_case.specs.Tables.{IsValid, most_rows};
 ghost use Rattle.obs_network.specs.Angles.{bus_angle, has_angle, item_angle};
-ghost use Rattle.obs_network.specs.Network.{AreFoundOf, case_angles};
+ghost use Rattle.obs_network.specs.Network.{case_angles};
+ghost use Rattle.obs_network.specs.inner.Network.{AreFoundOf};
 
 use crate::components::Components;
 use obs_case::{Candidate, Case, Kind, Meter};

@@ -35,7 +35,7 @@ pub(crate) struct Components {
 impl Model for Components {
     ghost use Rattle.std.specs.Prelude.{length, take};
     ghost use Rattle.obs_network.specs.Network.{Components};
-    ghost use Rattle.obs_network.specs.Kept.{AreGrouped};
+    ghost use Rattle.obs_network.specs.inner.Kept.{AreGrouped};
 
     ghost Value = { Components };
 

@@ -2,9 +2,9 @@
 // branches at an end that it had or has, are looked at again.
 ghost use Rattle.std.specs.Prelude.{◌≡◌, ◌+◌, ◌<◌, ◌≤◌, length, slice_set, take};
 ghost use Rattle.obs_graph.specs.Positions.{has_end};
-ghost use Rattle.obs_meter.specs.Touches.{IsInRange};
-ghost use Rattle.obs_network.specs.Following.{AreFollowed, AreOfAsMany, CanFollow, IsChangeIn, followed, followed_items, is_end, is_near, is_row};
-ghost use Rattle.obs_network.specs.Kept.{list_of, lists_of};
+ghost use Rattle.obs_meter.specs.inner.Touches.{IsInRange};
+ghost use Rattle.obs_network.specs.inner.Following.{AreFollowed, AreOfAsMany, CanFollow, IsChangeIn, followed, followed_items, is_end, is_near, is_row};
+ghost use Rattle.obs_network.specs.inner.Kept.{list_of, lists_of};
 ghost use Rattle.obs_network.specs.Located.{touch_component};
 
 use crate::components::Components;

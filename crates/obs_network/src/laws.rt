@@ -12,21 +12,26 @@ ghost use Rattle.obs_case.specs.Items.{angle_position, is_angle};
 ghost use Rattle.obs_case.specs.Tables.{IsValid, Tables};
 ghost use Rattle.obs_matroid.specs.Lists.{In, IsRising};
 ghost use Rattle.obs_matroid.specs.Assignments.{Pair};
-ghost use Rattle.obs_matroid.specs.Components.{IsSumOfKinds};
+ghost use Rattle.obs_matroid.specs.inner.Components.{IsSumOfKinds};
 ghost use Rattle.obs_meter.specs.declared.Touch.{Touch};
 ghost use Rattle.obs_meter.specs.declared.Touch.TheVariants.{Nothing};
 ghost use Rattle.obs_meter.specs.Assignments.{IsAssignmentAt, IsRhoAt, rho_at};
 ghost use Rattle.obs_meter.specs.Spanned.{graph_matroid, rank_at};
-ghost use Rattle.obs_meter.specs.Touches.{AreInRange, touch_at};
-ghost use Rattle.obs_network.specs.Switched.{IsClosedSwitch, case_bus_count, case_buses, closed_links};
-ghost use Rattle.obs_network.specs.Components.{AreOneComponent, component_count, component_of, components_of, first_bus, first_buses_of, is_absolute_node, is_energised, is_marked, is_source, marked_nodes, need_of, needed_of, sizes_of, source_nodes};
-ghost use Rattle.obs_network.specs.Located.{component_of_branch, component_of_item, live_meters_of};
+ghost use Rattle.obs_meter.specs.Touches.{touch_at};
+ghost use Rattle.obs_meter.specs.inner.Touches.{AreInRange};
+ghost use Rattle.obs_network.specs.Switched.{case_bus_count, case_buses, closed_links};
+ghost use Rattle.obs_network.specs.inner.Switched.{IsClosedSwitch};
+ghost use Rattle.obs_network.specs.Components.{component_count, component_of, components_of, first_bus, first_buses_of, is_absolute_node, is_marked, is_source, marked_nodes, need_of, needed_of, sizes_of};
+ghost use Rattle.obs_network.specs.inner.Components.{AreOneComponent, is_energised, source_nodes};
+ghost use Rattle.obs_network.specs.Located.{component_of_item};
+ghost use Rattle.obs_network.specs.inner.Located.{component_of_branch, live_meters_of};
 ghost use Rattle.obs_network.specs.Network.{Network, case_branches, case_component_count, case_components, case_live, case_meters, case_need, case_needed, case_offered, case_rows, case_sizes, case_vertex_component, case_vertex_count, network_of, rows_of};
-ghost use Rattle.obs_network.specs.Edited.{AreKept, AreMerged, ArePresent, AreSameBut, IsOneMerge, IsReferenceMerge};
-ghost use Rattle.obs_network.specs.Parted.{AreJoinedWithout, HasSource, HasSourceBeside, IsParted, StaysJoined, outage_case};
+ghost use Rattle.obs_network.specs.inner.Edited.{AreKept, AreMerged, ArePresent, AreSameBut, IsOneMerge, IsReferenceMerge};
+ghost use Rattle.obs_network.specs.Parted.{outage_case};
+ghost use Rattle.obs_network.specs.inner.Parted.{AreJoinedWithout, HasSource, HasSourceBeside, IsParted, StaysJoined};
 ghost use Rattle.obs_network.specs.Observable.{IsObservableCase, branch_component, case_live_meters, case_rank, is_absolute_component, is_energised_component, item_component};
-ghost use Rattle.obs_network.specs.Standing.{HasMarkedNode, IsPresentAngle, IsPresentRow, Touches};
-ghost use Rattle.obs_network.specs.Plain.{HasNoAbsolute, other_touches_in_order, touches_in_order, without_angles};
+ghost use Rattle.obs_network.specs.inner.Standing.{HasMarkedNode, IsPresentAngle, IsPresentRow, Touches};
+ghost use Rattle.obs_network.specs.inner.Plain.{HasNoAbsolute, other_touches_in_order, touches_in_order, without_angles};
 
 /// Two nodes have one bus exactly where the closed switches, as branches between nodes, join them: where a chain of closed
 /// switches of the case leads from the one to the other.

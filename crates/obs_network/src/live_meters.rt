@@ -1,9 +1,10 @@
 // The live meters of each component.
 ghost use Rattle.std.specs.Prelude.{◌≡◌, ◌+◌, ◌<◌, ◌≤◌, ◌^◌, [], ℕ, IfOk, suc, length, slice_index, slice_set, take};
-ghost use Rattle.obs_meter.specs.Touches.{AreInRange, IsInRange};
-ghost use Rattle.obs_switch.specs.Groups.{AreGroups, items_with};
+ghost use Rattle.obs_meter.specs.inner.Touches.{AreInRange, IsInRange};
+ghost use Rattle.obs_switch.specs.Groups.{items_with};
+ghost use Rattle.obs_switch.specs.inner.Groups.{AreGroups};
 ghost use Rattle.obs_network.specs.Located.{touch_component};
-ghost use Rattle.obs_network.specs.Kept.{list_of, lists_of};
+ghost use Rattle.obs_network.specs.inner.Kept.{list_of, lists_of};
 
 use crate::components::Components;
 use crate::located::component_of_touch;
@@ -32,7 +33,7 @@ pub(crate) struct LiveMeters {
 
 impl Model for LiveMeters {
     ghost use Rattle.std.specs.Prelude.{length, take};
-    ghost use Rattle.obs_network.specs.Kept.{AreListed, Listed};
+    ghost use Rattle.obs_network.specs.inner.Kept.{AreListed, Listed};
 
     ghost Value = { Listed };
 

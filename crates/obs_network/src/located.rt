@@ -1,8 +1,9 @@
 // The component of a branch, and of what an item touches.
 ghost use Rattle.std.specs.Prelude.{◌≡◌, ◌+◌, ◌<◌, IfSome, None, Some, if◌then◌else◌, length, nat_lt, slice_index_or};
-ghost use Rattle.obs_meter.specs.Touches.{IsInRange};
+ghost use Rattle.obs_meter.specs.inner.Touches.{IsInRange};
 ghost use Rattle.obs_network.specs.Components.{vertex_component};
-ghost use Rattle.obs_network.specs.Located.{ends_component, touch_component};
+ghost use Rattle.obs_network.specs.Located.{touch_component};
+ghost use Rattle.obs_network.specs.inner.Located.{ends_component};
 
 use crate::components::Components;
 use obs_graph::{Ends, Graph};

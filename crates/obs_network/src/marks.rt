@@ -4,7 +4,7 @@ ghost use Rattle.obs_graph.specs.Positions.{present};
 ghost use Rattle.obs_case.specs.Tables.{most_rows};
 ghost use Rattle.obs_graph.specs.Joined.{first_joined};
 ghost use Rattle.obs_network.specs.Components.{component_count, components_of, energised_branches, first_buses_of, if_energised, marked_of, needed_of, sizes_of};
-ghost use Rattle.obs_network.specs.Kept.{flag_of, need_by};
+ghost use Rattle.obs_network.specs.inner.Kept.{flag_of, need_by};
 
 use obs_case::Node;
 use obs_graph::Ends;

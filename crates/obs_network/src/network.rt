@@ -1,9 +1,10 @@
 // The network of a case.
 ghost use Rattle.std.specs.Prelude.{◌≡◌, ◌+◌, ◌-◌, ◌<◌, All, IfOk, IfSome, IsTrue, None, length, slice_index, slice_index_or, false};
-ghost use Rattle.obs_meter.specs.Touches.{AreInRange};
+ghost use Rattle.obs_meter.specs.inner.Touches.{AreInRange};
 ghost use Rattle.obs_network.specs.Components.{need_of};
-ghost use Rattle.obs_network.specs.Edited.{IsKnown};
-ghost use Rattle.obs_network.specs.Located.{component_of_branch, component_of_item, live_meters_of};
+ghost use Rattle.obs_network.specs.inner.Edited.{IsKnown};
+ghost use Rattle.obs_network.specs.Located.{component_of_item};
+ghost use Rattle.obs_network.specs.inner.Located.{component_of_branch, live_meters_of};
 ghost use Rattle.obs_network.specs.Network.{live_branch_count, network_of, rows_of};
 
 mod one_flag;
@@ -54,7 +55,7 @@ pub struct Network {
 impl Model for Network {
     ghost use Rattle.std.specs.Prelude.{◌-◌, length};
     ghost use Rattle.obs_network.specs.Network.{Network};
-    ghost use Rattle.obs_network.specs.Kept.{AreParts};
+    ghost use Rattle.obs_network.specs.inner.Kept.{AreParts};
 
     ghost Value = { Network };
 

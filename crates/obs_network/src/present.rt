@@ -1,7 +1,7 @@
 // A case and its network, which are lent together.
 ghost use Rattle.std.specs.Prelude.{◌≡◌, ◌<◌, ◌^◌};
 ghost use Rattle.obs_graph.specs.Positions.{AreBranches};
-ghost use Rattle.obs_meter.specs.Touches.{AreInRange};
+ghost use Rattle.obs_meter.specs.inner.Touches.{AreInRange};
 ghost use Rattle.obs_case.specs.Tables.{IsValid};
 ghost use Rattle.obs_network.specs.Network.{network_of};
 

@@ -2,10 +2,11 @@
 ghost use Rattle.std.specs.Prelude.{◌≡◌, ◌<◌, ◌≤◌, ◌+◌, IsTrue, length, slice_index_or, slice_set, take};
 ghost use Rattle.obs_case.specs.Tables.{IsValid};
 ghost use Rattle.obs_graph.specs.Positions.{AreBranches};
-ghost use Rattle.obs_graph.specs.Search.{room_of};
+ghost use Rattle.obs_graph.specs.inner.Search.{room_of};
 ghost use Rattle.obs_network.specs.declared.rebuild.Known.TheVariants.{TheBuses, ByCount};
 ghost use Rattle.obs_network.specs.Switched.{case_bus_count, case_buses, closed_links};
-ghost use Rattle.obs_network.specs.Network.{AreBusesOf, AreComponentsOf, AreFoundOf, HasRoomAs, IsGraphOf, IsLiveGraphOf, case_branches, case_live, case_meters, case_offered, case_vertex_count};
+ghost use Rattle.obs_network.specs.Network.{case_branches, case_live, case_meters, case_offered, case_vertex_count};
+ghost use Rattle.obs_network.specs.inner.Network.{AreBusesOf, AreComponentsOf, AreFoundOf, HasRoomAs, IsGraphOf, IsLiveGraphOf};
 
 use crate::angles::write_angles;
 use crate::components::Components;

@@ -1,7 +1,7 @@
 // The network after a switch was opened or closed, or after any edit.
 ghost use Rattle.std.specs.Prelude.{◌≡◌, ◌<◌, IsTrue, length};
 ghost use Rattle.obs_case.specs.Tables.{IsValid};
-ghost use Rattle.obs_network.specs.Edited.{IsBeforeSwitch};
+ghost use Rattle.obs_network.specs.inner.Edited.{IsBeforeSwitch};
 ghost use Rattle.obs_network.specs.Network.{network_of, rows_of};
 
 use crate::network::Network;

@@ -1,6 +1,7 @@
 //! For how many positions and vertices there is to be room.
 ghost use Rattle.std.specs.Prelude.{◌≡◌};
-ghost use Rattle.obs_network.specs.Network.{case_position_count, case_vertex_room};
+ghost use Rattle.obs_network.specs.Network.{case_vertex_room};
+ghost use Rattle.obs_network.specs.inner.Network.{case_position_count};
 
 use crate::angles::has_angle;
 use obs_case::Case;

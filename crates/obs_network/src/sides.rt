@@ -1,10 +1,10 @@
 // A walk from both ends of a row along the other rows: they join the two, or one of the two sides is found whole.
 ghost use Rattle.std.specs.Prelude.{◌≡◌, ◌≢◌, ◌<◌, ◌≤◌, ◌+◌, ◌⊎◌, ◌==◌, ℕ, false, true, All, IsSome, IsTrue, MatchBool, MatchOption, IfOk, None, Some, length, slice_index_or, slice_set, take};
 ghost use Rattle.obs_graph.specs.Positions.{has_end, present};
-ghost use Rattle.obs_graph.specs.Search.{Reaches};
+ghost use Rattle.obs_graph.specs.inner.Search.{Reaches};
 ghost use Rattle.obs_matroid.specs.Lists.{In};
-ghost use Rattle.obs_network.specs.Parted.{AreJoinedWithout, IsSide};
-ghost use Rattle.obs_network.specs.Sides.{AreClear, AreFollowedUpTo, AreWalked, HaveGrown, IsMeeting, IsQueueOf, label_at, rows_in};
+ghost use Rattle.obs_network.specs.inner.Parted.{AreJoinedWithout, IsSide};
+ghost use Rattle.obs_network.specs.inner.Sides.{AreClear, AreFollowedUpTo, AreWalked, HaveGrown, IsMeeting, IsQueueOf, label_at, rows_in};
 
 use crate::memory::NoMemory;
 use obs_graph::search::other;
@@ -267,7 +267,7 @@ pub struct Sides {
 
 impl Model for Sides {
     ghost use Rattle.std.specs.Prelude.{length, take};
-    ghost use Rattle.obs_network.specs.Sides.{AreSides, Sides};
+    ghost use Rattle.obs_network.specs.inner.Sides.{AreSides, Sides};
 
     ghost Value = { Sides };
 

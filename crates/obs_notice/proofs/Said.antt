@@ -3,7 +3,8 @@ use Rattle.std.proofs.Common.{ℕ, ◌≡◌, ◌<◌, ◌∙◌, ◌+◌, zero,
 use Rattle.std.specs.Prelude.{IsOk, slice_index, ⊤}
 use Rattle.std.proofs.Math.Seq.{take-length}
 use Rattle.std.proofs.lemmas.List.{length-append}
-use Rattle.obs_io.specs.Bytes.{Wrote, WrotePart, Writes}
+use Rattle.obs_io.specs.Bytes.{Wrote, WrotePart}
+use Rattle.obs_io.specs.inner.Bytes.{Writes}
 use Rattle.obs_notice.specs.Notices.{byte_said, comma_said, digits_said, name_said}
 
 wrote_then : (a b d : Option (List ℕ)) (x y : List ℕ) → Wrote a b x → Wrote b d y → Wrote a d (x ++ y)

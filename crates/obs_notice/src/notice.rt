@@ -1,6 +1,6 @@
 // What is said on standard error of a run.
 ghost use Rattle.std.specs.Prelude.{◌≡◌, ◌<◌, ◌+◌, ◌++◌, ℕ, [], length, map, string_bytes, slice_index_or, IsOk};
-ghost use Rattle.obs_io.specs.Bytes.{Writes};
+ghost use Rattle.obs_io.specs.inner.Bytes.{Writes};
 ghost use Rattle.obs_notice.specs.Notices.{byte_said, digit_code, name_said, notice, read_notice, too_long_notice};
 
 use crate::numbers::write_around;

@@ -1,6 +1,6 @@
 // Numbers, written with commas.
 ghost use Rattle.std.specs.Prelude.{◌+◌, ◌++◌, ℕ, length, IsOk};
-ghost use Rattle.obs_io.specs.Bytes.{Writes};
+ghost use Rattle.obs_io.specs.inner.Bytes.{Writes};
 ghost use Rattle.obs_notice.specs.Notices.{comma_said, digits_said};
 
 use obs_io::{Failed, Sink, write_all};

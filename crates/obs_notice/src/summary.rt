@@ -1,7 +1,7 @@
 // What is said of a case beside its answer: how many of its buses are energised, where not all are, and at how many more than
 // one injection stands.
 ghost use Rattle.std.specs.Prelude.{◌+◌, ◌++◌, ℕ, length, IsOk};
-ghost use Rattle.obs_io.specs.Bytes.{Writes};
+ghost use Rattle.obs_io.specs.inner.Bytes.{Writes};
 ghost use Rattle.obs_notice.specs.Notices.{crowded_notice, energised_notice, part_notice, summary_notice};
 
 use crate::numbers::{write_around, write_pair};

@@ -6,8 +6,8 @@ use Rattle.obs_graph.specs.declared.Ends.{Ends}
 use Rattle.obs_graph.specs.Positions.{AreBranches}
 use Rattle.obs_matroid.specs.Lists.{In, other_than, without}
 use Rattle.obs_matroid.specs.Assignments.{IsAssignment, Pair, items}
-use Rattle.obs_matroid.specs.Closed.{IsGrown, every, none}
-use Rattle.obs_matroid.specs.Slots.{pairs_of}
+use Rattle.obs_matroid.specs.inner.Closed.{IsGrown, every, none}
+use Rattle.obs_matroid.specs.inner.Slots.{pairs_of}
 use Rattle.obs_matroid.proofs.Bounds.{length-items}
 use Rattle.obs_matroid.proofs.Critical.{longest_from_closed}
 use Rattle.obs_matroid.proofs.Least.{grows_or_closes}
@@ -21,7 +21,8 @@ use Rattle.obs_meter.proofs.Assigned.{every-to_live, from_matroid, live-to_every
 use Rattle.obs_meter.proofs.Instance.{IsMatroid-graph}
 use Rattle.obs_meter.proofs.Live.{live-from_live_items}
 use Rattle.obs_meter.proofs.Touched.{live-from_In}
-use Rattle.obs_assign.specs.Assignment.{Assignment, IsWhole, StandsOver, branch_at, pairs}
+use Rattle.obs_assign.specs.Assignment.{Assignment}
+use Rattle.obs_assign.specs.inner.Assignment.{IsWhole, StandsOver, branch_at, pairs}
 use Rattle.obs_assign.proofs.Moving.{length-put_bare}
 use Rattle.obs_assign.proofs.Slotted.{item_slot, none_some, slot_item, slot_low}
 use Rattle.obs_assign.proofs.Standing.{IsAssignmentAt-standing}
@@ -29,12 +30,12 @@ use Rattle.obs_exchange.specs.declared.Found.{Found}
 use Rattle.obs_exchange.specs.declared.Found.TheVariants.{Closed, Grown}
 use Rattle.obs_exchange.specs.declared.Sources.TheVariants.{One}
 use Rattle.obs_exchange.specs.Critical.{IsCriticalAt}
-use Rattle.obs_exchange.specs.Found.{AddsSource, HasClosed, IsFound}
-use Rattle.obs_exchange.specs.Laws.{IsThawed}
-use Rattle.obs_exchange.specs.Longest.{IsLongest}
+use Rattle.obs_exchange.specs.inner.Found.{AddsSource, HasClosed, IsFound}
+use Rattle.obs_exchange.specs.inner.Laws.{IsThawed}
+use Rattle.obs_exchange.specs.inner.Longest.{IsLongest}
 use Rattle.obs_exchange.proofs.AtGraph.{IsAssignment-live, out-from_bare}
 use Rattle.obs_network.specs.Network.{Network}
-use Rattle.obs_outage.specs.Alone.{HasLost}
+use Rattle.obs_outage.specs.inner.Alone.{HasLost}
 use Rattle.obs_outage.proofs.Crossed.{thawed_found}
 
 module _ (n : Network) (a b : Assignment) (m e : ℕ) (h : HasLost n a m e b) where

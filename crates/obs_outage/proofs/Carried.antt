@@ -10,18 +10,20 @@ use Rattle.obs_meter.specs.declared.Touch.{Touch}
 use Rattle.obs_meter.specs.Spanned.{graph_matroid}
 use Rattle.obs_meter.proofs.Assigned.{independent-from_forest_at}
 use Rattle.obs_meter.proofs.Instance.{IsMatroid-graph}
-use Rattle.obs_assign.specs.Assignment.{Assignment, IsWhole, StandsOver, pairs}
-use Rattle.obs_assign.specs.Still.{AreRetained, still}
+use Rattle.obs_assign.specs.Assignment.{Assignment}
+use Rattle.obs_assign.specs.inner.Assignment.{IsWhole, StandsOver, pairs}
+use Rattle.obs_assign.specs.inner.Still.{AreRetained, still}
 use Rattle.obs_assign.proofs.Standing.{IsAssignmentAt-standing, length-retained}
-use Rattle.obs_exchange.specs.Found.{Work}
-use Rattle.obs_exchange.specs.Lengthened.{HasLengthened}
-use Rattle.obs_exchange.specs.Longest.{IsMost}
+use Rattle.obs_exchange.specs.inner.Found.{Work}
+use Rattle.obs_exchange.specs.inner.Lengthened.{HasLengthened}
+use Rattle.obs_exchange.specs.inner.Longest.{IsMost}
 use Rattle.obs_network.specs.Network.{Network, case_branches, case_meters, case_needed, network_of}
-use Rattle.obs_kept.specs.Kept.{AreLongest, HasRoom}
+use Rattle.obs_kept.specs.inner.Kept.{AreLongest, HasRoom}
 use Rattle.obs_network.specs.Observable.{case_rank}
 use Rattle.obs_outage.specs.declared.outages.Outage.{Outage}
 use Rattle.obs_network.specs.Parted.{outage_case}
-use Rattle.obs_outage.specs.Outages.{AllStand, outage_of}
+use Rattle.obs_outage.specs.Outages.{outage_of}
+use Rattle.obs_outage.specs.inner.Outages.{AllStand}
 use Rattle.obs_outage.proofs.InOutage.{all_forest, all_long, all_most, as_many_meters, as_many_positions, back_forest, back_long, most_here, most_out, out_valid, rank_longest, same_rows}
 
 -- where as many pairs stand still as there can be, and are a forest, all are kept and nothing is searched

@@ -15,16 +15,17 @@ use Rattle.obs_meter.specs.Held.{Meters}
 use Rattle.obs_meter.specs.Touches.{live_items, touch_at, touched}
 use Rattle.obs_meter.proofs.Assigned.{every-to_live, live_items-distinct, rho_at-is}
 use Rattle.obs_meter.proofs.Touched.{itself_from, live-from_In}
-use Rattle.obs_assign.specs.Assignment.{Assignment, branch_at, has_flag}
+use Rattle.obs_assign.specs.Assignment.{Assignment}
+use Rattle.obs_assign.specs.inner.Assignment.{branch_at, has_flag}
 use Rattle.obs_exchange.specs.declared.Sources.TheVariants.{All}
 use Rattle.obs_exchange.specs.Critical.{critical_at}
-use Rattle.obs_exchange.specs.Found.{HasClosed}
-use Rattle.obs_exchange.specs.Laws.{HasClosedSet}
-use Rattle.obs_exchange.specs.Longest.{IsLongest}
+use Rattle.obs_exchange.specs.inner.Found.{HasClosed}
+use Rattle.obs_exchange.specs.inner.Laws.{HasClosedSet}
+use Rattle.obs_exchange.specs.inner.Longest.{IsLongest}
 use Rattle.obs_exchange.proofs.Lawful.{closed_noncritical, critical_at-exactly}
 use Rattle.obs_network.specs.Network.{Network}
-use Rattle.obs_kept.specs.Kept.{AreLongestOver}
-use Rattle.obs_outage.specs.Costly.{AreCostly, IsCostly}
+use Rattle.obs_kept.specs.inner.Kept.{AreLongestOver}
+use Rattle.obs_outage.specs.inner.Costly.{AreCostly, IsCostly}
 
 -- a meter that touches one branch by its position touches no other
 edge_alone : (ends : List (Option Ends)) (touches : List Touch) (m f p q : ℕ) → get_or touches m Nothing ≡ Edge f → In p (touch_at ends touches m) → In q (touch_at ends touches m) → p ≡ q

@@ -13,20 +13,22 @@ use Rattle.obs_meter.specs.declared.Touch.{Touch}
 use Rattle.obs_meter.specs.declared.Touch.TheVariants.{Nothing}
 use Rattle.obs_meter.specs.Touches.{touch_at}
 use Rattle.obs_meter.proofs.Touched.{touched-present}
-use Rattle.obs_assign.specs.Assignment.{Assignment, IsWhole, StandsOver, branch_at, pairs}
+use Rattle.obs_assign.specs.Assignment.{Assignment}
+use Rattle.obs_assign.specs.inner.Assignment.{IsWhole, StandsOver, branch_at, pairs}
 use Rattle.obs_assign.proofs.Slotted.{branch_slot, none_some, slot_low, slots_apart}
 use Rattle.obs_assign.proofs.Standing.{still_from}
 use Rattle.obs_exchange.specs.declared.Found.{Found}
 use Rattle.obs_exchange.specs.declared.Found.TheVariants.{Closed, Grown}
 use Rattle.obs_exchange.specs.declared.Sources.{Sources}
-use Rattle.obs_exchange.specs.Found.{IsFound}
-use Rattle.obs_exchange.specs.Laws.{IsThawed}
-use Rattle.obs_network.specs.Edited.{AreSameBut}
+use Rattle.obs_exchange.specs.inner.Found.{IsFound}
+use Rattle.obs_exchange.specs.inner.Laws.{IsThawed}
+use Rattle.obs_network.specs.inner.Edited.{AreSameBut}
 use Rattle.obs_network.specs.Network.{Network, case_branches, case_meters}
-use Rattle.obs_kept.specs.Kept.{AreLongestOver}
+use Rattle.obs_kept.specs.inner.Kept.{AreLongestOver}
 use Rattle.obs_network.specs.Parted.{outage_case}
-use Rattle.obs_outage.specs.Settled.{IsMissed}
-use Rattle.obs_outage.specs.Outages.{AllStand, outage_rows}
+use Rattle.obs_outage.specs.inner.Settled.{IsMissed}
+use Rattle.obs_outage.specs.Outages.{outage_rows}
+use Rattle.obs_outage.specs.inner.Outages.{AllStand}
 use Rattle.obs_outage.proofs.InOutage.{as_many_rows}
 use Rattle.obs_outage.proofs.Restored.{row_gone, row_here, row_low}
 

@@ -8,7 +8,7 @@ use Rattle.obs_matroid.specs.Lists.{In}
 use Rattle.obs_matroid.proofs.Lists.{In-filter}
 use Rattle.obs_matroid.proofs.Ranges.{below_in, later, later_listed, later_over}
 use Rattle.obs_outage.specs.declared.outages.Outage.{Outage}
-use Rattle.obs_outage.specs.Ready.{IsBasisOf}
+use Rattle.obs_outage.specs.inner.Ready.{IsBasisOf}
 use Rattle.obs_outage.specs.declared.basis.Basis.{Basis}
 use Rattle.obs_outage.specs.Outages.{is_outage_row, outage_of, outage_rows, outages_of}
 

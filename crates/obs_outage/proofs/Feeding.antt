@@ -5,7 +5,7 @@ use Rattle.std.proofs.lemmas.Bool.{cases_eq, eq-eqb, ne_eqb}
 use Rattle.obs_graph.specs.Positions.{positions_from}
 use Rattle.obs_case.specs.declared.rows.Node.{Node}
 use Rattle.obs_network.specs.Components.{is_source}
-use Rattle.obs_outage.specs.Feeds.{sources_at}
+use Rattle.obs_outage.specs.inner.Feeds.{sources_at}
 use Rattle.obs_outage.proofs.Parting.{count_by-cons}
 
 module _ (place : ℕ → ℕ) (nodes : List Node) (u : ℕ) (row : Node) (at : drop u nodes ≡ row ∷ drop (suc u) nodes) where

@@ -1,7 +1,7 @@
 -- Flags that are set row by row.
 use Rattle.std.proofs.Common.{inl, inr, ◌≡◌, ℕ, ◌+◌, ◌<◌, Bool, true, false, List, length, set, sym, ap, ◌∙◌, subst, get_or-set_same, get_or-set_other, arith}
 use Rattle.std.proofs.lemmas.Bool.{cases_eq}
-use Rattle.obs_assign.specs.Assignment.{has_flag}
+use Rattle.obs_assign.specs.inner.Assignment.{has_flag}
 
 module _ (P : ℕ → Type 0) (flags : List Bool) (e : ℕ) (answer : Bool) (low : e < length flags) where
   here : (k : ℕ) (b : Bool) → k ≡ e → has_flag (set flags e answer) k ≡ b → answer ≡ b

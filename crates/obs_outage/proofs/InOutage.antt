@@ -11,20 +11,21 @@ use Rattle.obs_matroid.specs.Assignments.{Pair, branches}
 use Rattle.obs_meter.specs.Assignments.{IsAssignmentAt}
 use Rattle.obs_meter.specs.Touches.{every_item, touch_at}
 use Rattle.obs_meter.proofs.Assigned.{every-to_live, live-to_every, live_items-distinct, rho_at-is, rho_at-unique}
-use Rattle.obs_assign.specs.Assignment.{Assignment, pairs}
-use Rattle.obs_assign.specs.Still.{still}
+use Rattle.obs_assign.specs.Assignment.{Assignment}
+use Rattle.obs_assign.specs.inner.Assignment.{pairs}
+use Rattle.obs_assign.specs.inner.Still.{still}
 use Rattle.obs_assign.proofs.Standing.{IsAssignmentAt-standing, still_from}
-use Rattle.obs_exchange.specs.Longest.{IsMost}
-use Rattle.obs_network.specs.Edited.{ArePresent}
+use Rattle.obs_exchange.specs.inner.Longest.{IsMost}
+use Rattle.obs_network.specs.inner.Edited.{ArePresent}
 use Rattle.obs_network.specs.Network.{case_branches, case_meters, case_vertex_count, network_of, rows_of}
 use Rattle.obs_network.specs.Observable.{IsRankOf, case_live_meters, case_rank}
 use Rattle.obs_network.proofs.KeptForests.{forest_with_branch}
 use Rattle.obs_network.proofs.OfCase.{case_branches-are, length-case_branches, length-case_meters}
 use Rattle.obs_network.proofs.Outed.{present_before, touched_before}
-use Rattle.obs_kept.specs.Kept.{AreLongest}
+use Rattle.obs_kept.specs.inner.Kept.{AreLongest}
 use Rattle.obs_kept.proofs.StandingStill.{present-touched, still_all}
 use Rattle.obs_network.specs.Parted.{outage_case}
-use Rattle.obs_outage.specs.Outages.{AllStand}
+use Rattle.obs_outage.specs.inner.Outages.{AllStand}
 use Rattle.obs_outage.proofs.Restored.{out_or_back}
 
 -- a longest assignment has the rank of its case

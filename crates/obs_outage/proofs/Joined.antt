@@ -7,7 +7,8 @@ use Rattle.std.proofs.Math.Seq.{take-append_seam}
 use Rattle.obs_graph.specs.declared.Ends.{Ends}
 use Rattle.obs_case.specs.Tables.{IsValid, Tables}
 use Rattle.obs_matroid.specs.Lists.{In, other_than}
-use Rattle.obs_matroid.specs.Assignments.{Pair, branches, part}
+use Rattle.obs_matroid.specs.Assignments.{Pair, branches}
+use Rattle.obs_matroid.specs.inner.Assignments.{part}
 use Rattle.obs_matroid.proofs.Exchange.{length-put_in}
 use Rattle.obs_matroid.proofs.Lists.{cases_In, other_ne}
 use Rattle.obs_matroid.proofs.Pairs.{In-branches, In-branches_from, In-items, In-part_from, IsDistinct-part, independent_part, same_pair_by_branch}
@@ -18,22 +19,24 @@ use Rattle.obs_meter.specs.Spanned.{graph_matroid}
 use Rattle.obs_meter.proofs.Assigned.{every-to_live, from_matroid, independent-from_forest_at, live-to_every}
 use Rattle.obs_meter.proofs.Instance.{IsMatroid-graph}
 use Rattle.obs_meter.proofs.Touched.{touched-present}
-use Rattle.obs_assign.specs.Assignment.{Assignment, branch_at, pairs}
+use Rattle.obs_assign.specs.Assignment.{Assignment}
+use Rattle.obs_assign.specs.inner.Assignment.{branch_at, pairs}
 use Rattle.obs_assign.proofs.Slotted.{branch_slot, distinct_branches}
 use Rattle.obs_assign.proofs.Standing.{IsAssignmentAt-standing}
 use Rattle.obs_network.specs.Network.{Network, case_angles, case_branches, case_meters, case_needed, case_rows, case_vertex_count, network_of}
 use Rattle.obs_network.specs.Observable.{case_rank}
 use Rattle.obs_network.proofs.KeptForests.{forest_with_branch}
 use Rattle.obs_network.proofs.OfCase.{case_branches-are, length-case_rows}
-use Rattle.obs_kept.specs.Kept.{AreLongest, AreLongestOver}
+use Rattle.obs_kept.specs.inner.Kept.{AreLongest, AreLongestOver}
 use Rattle.obs_kept.proofs.StandingStill.{present-touched}
 use Rattle.obs_outage.specs.declared.outages.Outage.{Outage}
 use Rattle.obs_outage.specs.Outages.{outage_of, outage_rows}
-use Rattle.obs_outage.specs.Costly.{IsCostly}
-use Rattle.obs_outage.specs.Settled.{IsRankWithout}
-use Rattle.obs_outage.specs.Spared.{IsSpared}
-use Rattle.obs_network.specs.Edited.{AreSameBut}
-use Rattle.obs_network.specs.Parted.{AreJoinedWithout, outage_case}
+use Rattle.obs_outage.specs.inner.Costly.{IsCostly}
+use Rattle.obs_outage.specs.inner.Settled.{IsRankWithout}
+use Rattle.obs_outage.specs.inner.Spared.{IsSpared}
+use Rattle.obs_network.specs.inner.Edited.{AreSameBut}
+use Rattle.obs_network.specs.Parted.{outage_case}
+use Rattle.obs_network.specs.inner.Parted.{AreJoinedWithout}
 use Rattle.obs_outage.proofs.InOutage.{as_many_meters, as_many_rows, assigns_before, out_valid, rank_falls, rank_is, rank_longest}
 use Rattle.obs_outage.proofs.Restored.{row_gone, row_here, row_low, row_present}
 use Rattle.obs_network.proofs.Spared.{joined_by_rows}

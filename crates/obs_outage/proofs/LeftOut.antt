@@ -14,9 +14,10 @@ use Rattle.obs_matroid.proofs.Contained.{In-from_All}
 use Rattle.obs_matroid.proofs.Lists.{In-append_cases, In-append_left, In-append_right}
 use Rattle.obs_meter.specs.declared.Touch.{Touch}
 use Rattle.obs_meter.specs.declared.Touch.TheVariants.{Nothing, Edge, Star, Front}
-use Rattle.obs_meter.specs.Touches.{IsInRange, touched}
+use Rattle.obs_meter.specs.Touches.{touched}
+use Rattle.obs_meter.specs.inner.Touches.{IsInRange}
 use Rattle.obs_meter.proofs.Touched.{In-from_any, In-take, any-from_In, itself_from, touched-present}
-use Rattle.obs_outage.specs.Without.{left_out}
+use Rattle.obs_outage.specs.inner.Without.{left_out}
 
 -- the list of all but e, in two parts, and a front of it
 module _ (low high : List ℕ) (e : ℕ) (new : In e low → ⊥) where

@@ -14,8 +14,8 @@ use Rattle.obs_matroid.specs.Assignments.{Pair, branches}
 use Rattle.obs_matroid.proofs.Lists.{In-filter, In-filter_from, IsDistinct-filter, clash, is_in, is_in_at, is_in_from, length-within}
 use Rattle.obs_meter.specs.declared.Touch.TheVariants.{Star}
 use Rattle.obs_meter.proofs.Touched.{In-from_any, any-from_In, star_touched, touch-rising, touched-below}
-use Rattle.obs_outage.specs.Feeds.{sources_at}
-use Rattle.obs_outage.specs.Lost.{counts_at, has_first}
+use Rattle.obs_outage.specs.inner.Feeds.{sources_at}
+use Rattle.obs_outage.specs.inner.Lost.{counts_at, has_first}
 use Rattle.obs_outage.proofs.Parting.{count_by-cons, sum_by-agree, sum_of_places}
 
 -- whether a branch has an end at one of some buses

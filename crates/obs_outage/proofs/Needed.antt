@@ -13,7 +13,8 @@ use Rattle.obs_graph.proofs.Chains.{Chain-more, is_joined-true}
 use Rattle.obs_graph.proofs.Present.{contains_present, none_some}
 use Rattle.obs_matroid.specs.Lists.{In, other_than}
 use Rattle.obs_matroid.specs.Matroid.{Matroid}
-use Rattle.obs_matroid.specs.Assignments.{IsAssignment, branches, others, part}
+use Rattle.obs_matroid.specs.Assignments.{IsAssignment, branches}
+use Rattle.obs_matroid.specs.inner.Assignments.{others, part}
 use Rattle.obs_matroid.specs.Bounds.{inside}
 use Rattle.obs_matroid.proofs.Bounds.{weak_bound}
 use Rattle.obs_matroid.proofs.Contained.{In-from_Contains}
@@ -30,17 +31,18 @@ use Rattle.obs_meter.proofs.Assigned.{every-to_live, rho_at-unique, to_matroid}
 use Rattle.obs_meter.proofs.Instance.{IsMatroid-graph}
 use Rattle.obs_meter.proofs.Live.{In-live}
 use Rattle.obs_meter.proofs.Touched.{live-from_In, touched-present}
-use Rattle.obs_assign.specs.Assignment.{Assignment, branch_at, has_flag, pairs}
+use Rattle.obs_assign.specs.Assignment.{Assignment}
+use Rattle.obs_assign.specs.inner.Assignment.{branch_at, has_flag, pairs}
 use Rattle.obs_assign.proofs.Slotted.{some_same}
 use Rattle.obs_exchange.specs.Critical.{IsCriticalAt, critical_at}
-use Rattle.obs_exchange.specs.Laws.{HasClosedSet}
-use Rattle.obs_exchange.specs.Longest.{IsLongest}
+use Rattle.obs_exchange.specs.inner.Laws.{HasClosedSet}
+use Rattle.obs_exchange.specs.inner.Longest.{IsLongest}
 use Rattle.obs_exchange.proofs.AtGraph.{IsAssignment-live}
 use Rattle.obs_exchange.proofs.Lawful.{closed_noncritical, closed_tight_at, critical_at-exactly}
-use Rattle.obs_network.specs.Parted.{AreJoinedWithout, IsSide}
+use Rattle.obs_network.specs.inner.Parted.{AreJoinedWithout, IsSide}
 use Rattle.obs_network.proofs.FoundSides.{side_parts}
-use Rattle.obs_outage.specs.Costly.{IsCostly}
-use Rattle.obs_outage.specs.Sparing.{ArePaired, AreTouchedBy, HasTouched, IsNeeded}
+use Rattle.obs_outage.specs.inner.Costly.{IsCostly}
+use Rattle.obs_outage.specs.inner.Sparing.{ArePaired, AreTouchedBy, HasTouched, IsNeeded}
 use Rattle.obs_outage.proofs.Sparing.{sparing}
 
 -- what is some, is something

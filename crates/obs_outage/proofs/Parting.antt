@@ -8,20 +8,22 @@ use Rattle.obs_case.specs.Tables.{IsValid, Tables}
 use Rattle.obs_matroid.specs.Lists.{In, IsDistinct}
 use Rattle.obs_matroid.proofs.Lists.{is_in, is_in_at, is_in_from}
 use Rattle.obs_network.specs.Switched.{case_bus_count}
-use Rattle.obs_network.specs.Components.{source_nodes}
-use Rattle.obs_assign.specs.Assignment.{Assignment, pairs}
-use Rattle.obs_kept.specs.Kept.{AreLongest}
+use Rattle.obs_network.specs.inner.Components.{source_nodes}
+use Rattle.obs_assign.specs.Assignment.{Assignment}
+use Rattle.obs_assign.specs.inner.Assignment.{pairs}
+use Rattle.obs_kept.specs.inner.Kept.{AreLongest}
 use Rattle.obs_network.specs.Network.{Network, case_meters, case_needed, case_rows, network_of, node_component}
 use Rattle.obs_network.specs.Observable.{case_live_meters}
-use Rattle.obs_network.specs.Parted.{HasSource, HasSourceBeside, IsParted, IsSide, outage_case}
-use Rattle.obs_network.specs.Located.{component_of_branch}
+use Rattle.obs_network.specs.Parted.{outage_case}
+use Rattle.obs_network.specs.inner.Parted.{HasSource, HasSourceBeside, IsParted, IsSide}
+use Rattle.obs_network.specs.inner.Located.{component_of_branch}
 use Rattle.obs_network.proofs.FewLost.{alone, no_shorter}
 use Rattle.obs_network.proofs.Observed.{most_pairs}
 use Rattle.obs_network.proofs.OfCase.{case_bus_count-le, case_component-below, case_component_count-le}
 use Rattle.obs_network.proofs.PartedNeeds.{Found, both_live, found, in_component, listed_dead, low}
 use Rattle.obs_network.proofs.SideLists.{on_side, side_count, side_low}
 use Rattle.obs_outage.specs.declared.outages.Outage.{Outage}
-use Rattle.obs_outage.specs.Feeds.{AreFeeds, Feeds, IsFall, bus_at, sources_at}
+use Rattle.obs_outage.specs.inner.Feeds.{AreFeeds, Feeds, IsFall, bus_at, sources_at}
 use Rattle.obs_outage.specs.Outages.{outage_of}
 use Rattle.obs_outage.proofs.InOutage.{out_valid, rank_is, rank_longest}
 use Rattle.obs_outage.proofs.Joined.{entry_by}

@@ -9,7 +9,7 @@ use Rattle.obs_matroid.proofs.Lists.{In-append_cases}
 use Rattle.obs_meter.specs.declared.Touch.{Touch}
 use Rattle.obs_meter.specs.Touches.{touch_at}
 use Rattle.obs_meter.proofs.Touched.{In-take}
-use Rattle.obs_outage.specs.Sparing.{HasFronts, HasPut}
+use Rattle.obs_outage.specs.inner.Sparing.{HasFronts, HasPut}
 
 module _ (ends before : List (Option Ends)) where
   pub HasPut-none : HasPut ends before [] before

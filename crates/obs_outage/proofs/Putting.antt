@@ -13,7 +13,7 @@ use Rattle.obs_meter.specs.declared.Touch.TheVariants.{Star}
 use Rattle.obs_meter.specs.Touches.{touch_at}
 use Rattle.obs_meter.proofs.Instance.{in_range}
 use Rattle.obs_meter.proofs.Touched.{In-take, touched-below}
-use Rattle.obs_outage.specs.Sparing.{ArePut, AreTouchedBy}
+use Rattle.obs_outage.specs.inner.Sparing.{ArePut, AreTouchedBy}
 
 module _ (ends before : List (Option Ends)) where
   pub ArePut-none : (L : List ℕ) → ArePut ends before L before

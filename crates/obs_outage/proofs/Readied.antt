@@ -2,15 +2,15 @@
 use Rattle.std.proofs.Common.{◌≡◌, ◌≤◌, length, sym, ap, ◌∙◌, subst}
 use Rattle.obs_graph.specs.Positions.{AreBranches}
 use Rattle.obs_case.specs.Tables.{Tables}
-use Rattle.obs_meter.specs.Sizes.{HasRoomFor}
+use Rattle.obs_meter.specs.inner.Sizes.{HasRoomFor}
 use Rattle.obs_network.specs.Network.{Network}
-use Rattle.obs_network.specs.Sides.{Sides}
-use Rattle.obs_kept.specs.Kept.{AreLongest, AreLongestOver, HasRoom, network_sizes}
+use Rattle.obs_network.specs.inner.Sides.{Sides}
+use Rattle.obs_kept.specs.inner.Kept.{AreLongest, AreLongestOver, HasRoom, network_sizes}
 use Rattle.obs_kept.specs.declared.kept.Kept.{Kept}
-use Rattle.obs_outage.specs.Ready.{IsBasisOf, IsReady}
-use Rattle.obs_outage.specs.Sparing.{Spared}
-use Rattle.obs_outage.specs.Told.{AreTold}
-use Rattle.obs_outage.specs.Without.{IsCopy}
+use Rattle.obs_outage.specs.inner.Ready.{IsBasisOf, IsReady}
+use Rattle.obs_outage.specs.inner.Sparing.{Spared}
+use Rattle.obs_outage.specs.inner.Told.{AreTold}
+use Rattle.obs_outage.specs.inner.Without.{IsCopy}
 use Rattle.obs_outage.specs.declared.basis.Basis.{Basis}
 use Rattle.obs_outage.specs.declared.rowless.Without.{Without}
 

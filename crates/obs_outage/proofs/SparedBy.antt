@@ -14,7 +14,7 @@ use Rattle.obs_graph.proofs.Present.{none_some, present_contains, present_low}
 use Rattle.obs_matroid.specs.Lists.{In, other_than}
 use Rattle.obs_matroid.specs.Matroid.{Matroid}
 use Rattle.obs_matroid.specs.Bounds.{inside}
-use Rattle.obs_matroid.specs.Critical.{IsCritical}
+use Rattle.obs_matroid.specs.inner.Critical.{IsCritical}
 use Rattle.obs_matroid.specs.Values.{is_critical}
 use Rattle.obs_matroid.proofs.Computed.{is_critical_is}
 use Rattle.obs_matroid.proofs.Contained.{Contains-from_In}
@@ -28,20 +28,21 @@ use Rattle.obs_meter.proofs.Assigned.{every-to_live, from_matroid, live-to_every
 use Rattle.obs_meter.proofs.Instance.{IsMatroid-graph}
 use Rattle.obs_meter.proofs.Touched.{live-from_In}
 use Rattle.obs_meter.proofs.Live.{In-live, live-from_live_items}
-use Rattle.obs_assign.specs.Assignment.{Assignment, branch_at, has_flag, pairs}
+use Rattle.obs_assign.specs.Assignment.{Assignment}
+use Rattle.obs_assign.specs.inner.Assignment.{branch_at, has_flag, pairs}
 use Rattle.obs_assign.proofs.Slotted.{branch_slot}
 use Rattle.obs_assign.proofs.Standing.{IsAssignmentAt-standing}
 use Rattle.obs_exchange.specs.declared.Sources.TheVariants.{All}
 use Rattle.obs_exchange.specs.Critical.{critical_at}
-use Rattle.obs_exchange.specs.Found.{HasClosed}
-use Rattle.obs_exchange.specs.Laws.{HasClosedSet}
-use Rattle.obs_exchange.specs.Longest.{IsLongest}
+use Rattle.obs_exchange.specs.inner.Found.{HasClosed}
+use Rattle.obs_exchange.specs.inner.Laws.{HasClosedSet}
+use Rattle.obs_exchange.specs.inner.Longest.{IsLongest}
 use Rattle.obs_exchange.proofs.Lawful.{closed_noncritical}
 use Rattle.obs_network.specs.Network.{Network}
-use Rattle.obs_kept.specs.Kept.{AreLongestOver}
-use Rattle.obs_outage.specs.Spared.{AreSpared, IsSpared}
-use Rattle.obs_outage.specs.Sparing.{AreMissed, AreTouchedBy, CanBeMissed}
-use Rattle.obs_network.specs.Parted.{AreJoinedWithout}
+use Rattle.obs_kept.specs.inner.Kept.{AreLongestOver}
+use Rattle.obs_outage.specs.inner.Spared.{AreSpared, IsSpared}
+use Rattle.obs_outage.specs.inner.Sparing.{AreMissed, AreTouchedBy, CanBeMissed}
+use Rattle.obs_network.specs.inner.Parted.{AreJoinedWithout}
 use Rattle.obs_outage.proofs.Sparing.{spared_long, sparing, sparing_assigns, sparing_free}
 
 module _ (n : ℕ) (ends : List (Option Ends)) (touches : List Touch) (ok : AreBranches n ends) where

@@ -3,10 +3,13 @@ use Rattle.std.proofs.Common.{inl, inr, ◌≡◌, ℕ, suc, ◌≤◌, Bool, tr
 use Rattle.std.specs.Prelude.{flat_map}
 use Rattle.std.proofs.lemmas.Bool.{cases_Bool, cases_eq, cases_lt}
 use Rattle.obs_matroid.specs.Lists.{In, IsDistinct, other_than, without}
-use Rattle.obs_matroid.specs.Matroid.{IsMatroid, Matroid}
-use Rattle.obs_matroid.specs.Assignments.{IsAssignment, IsRho, Pair, branches}
-use Rattle.obs_matroid.specs.Bounds.{bound, inside}
-use Rattle.obs_matroid.specs.Critical.{IsCritical}
+use Rattle.obs_matroid.specs.Matroid.{Matroid}
+use Rattle.obs_matroid.specs.inner.Matroid.{IsMatroid}
+use Rattle.obs_matroid.specs.Assignments.{IsAssignment, Pair, branches}
+use Rattle.obs_matroid.specs.inner.Assignments.{IsRho}
+use Rattle.obs_matroid.specs.Bounds.{inside}
+use Rattle.obs_matroid.specs.inner.Bounds.{bound}
+use Rattle.obs_matroid.specs.inner.Critical.{IsCritical}
 use Rattle.obs_matroid.specs.Values.{is_critical}
 use Rattle.obs_matroid.proofs.Bounds.{weak_bound}
 use Rattle.obs_matroid.proofs.Computed.{noncritical_tight}

@@ -8,7 +8,8 @@ use Rattle.obs_graph.proofs.Chains.{Chain-from_same_first, first_joined-contains
 use Rattle.obs_graph.proofs.Present.{contains_present, some_one}
 use Rattle.obs_case.specs.Tables.{IsValid, Tables}
 use Rattle.obs_matroid.specs.Lists.{In, IsDistinct, other_than}
-use Rattle.obs_matroid.specs.Assignments.{Pair, branches, items, part}
+use Rattle.obs_matroid.specs.Assignments.{Pair, branches, items}
+use Rattle.obs_matroid.specs.inner.Assignments.{part}
 use Rattle.obs_matroid.specs.Matroid.{IsIndependent}
 use Rattle.obs_matroid.proofs.Exchange.{length-put_in}
 use Rattle.obs_matroid.proofs.Lists.{In-append_cases, In-filter_from, IsDistinct-append, cases_In, clash, length-split, other_ne}
@@ -26,7 +27,8 @@ use Rattle.obs_assign.proofs.Slotted.{distinct_branches}
 use Rattle.obs_network.specs.Switched.{case_bus_count}
 use Rattle.obs_network.specs.Network.{case_branches, case_live, case_meters, case_rows, case_vertex_count}
 use Rattle.obs_network.specs.Observable.{case_rank}
-use Rattle.obs_network.specs.Parted.{IsParted, outage_case}
+use Rattle.obs_network.specs.Parted.{outage_case}
+use Rattle.obs_network.specs.inner.Parted.{IsParted}
 use Rattle.obs_network.proofs.Bridged.{fed_along, fed_lit, lit_fed, side_loose}
 use Rattle.obs_network.proofs.FewLost.{On, goes, stay_assigned}
 use Rattle.obs_network.proofs.InComponents.{row_is_live}
@@ -37,7 +39,7 @@ use Rattle.obs_network.proofs.PartedNeeds.{Fed, Found, apart, loose, low, row_at
 use Rattle.obs_network.proofs.SideLists.{chain_low}
 use Rattle.obs_network.proofs.Spared.{live_elsewhere}
 use Rattle.obs_network.proofs.Vertices.{row_or_angle}
-use Rattle.obs_outage.specs.Costly.{IsCostly}
+use Rattle.obs_outage.specs.inner.Costly.{IsCostly}
 use Rattle.obs_outage.proofs.InOutage.{as_many_rows, assigns_before, out_valid, rank_is}
 use Rattle.obs_outage.proofs.Restored.{row_gone, row_here}
 use Rattle.obs_outage.proofs.SideForests.{Crosses, Has, both_sides, with_bridge}

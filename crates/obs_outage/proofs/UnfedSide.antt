@@ -20,21 +20,24 @@ use Rattle.obs_meter.specs.declared.Touch.{Touch}
 use Rattle.obs_meter.specs.declared.Touch.TheVariants.{Edge, Front, Nothing, Star}
 use Rattle.obs_meter.specs.Assignments.{IsAssignmentAt}
 use Rattle.obs_meter.specs.Spanned.{both_ends, common_vertex, ends_at}
-use Rattle.obs_meter.specs.Touches.{every_item, hub_of, touch_at, touched}
+use Rattle.obs_meter.specs.Touches.{every_item, touch_at, touched}
+use Rattle.obs_meter.specs.inner.Touches.{hub_of}
 use Rattle.obs_meter.proofs.Touched.{itself_from, touched-vertex, touched-present}
-use Rattle.obs_assign.specs.Assignment.{Assignment, IsWhole, branch_at, pairs}
+use Rattle.obs_assign.specs.Assignment.{Assignment}
+use Rattle.obs_assign.specs.inner.Assignment.{IsWhole, branch_at, pairs}
 use Rattle.obs_assign.proofs.Slotted.{distinct_branches, length-pairs_of, slots_apart}
 use Rattle.obs_assign.proofs.Standing.{IsAssignmentAt-standing}
 use Rattle.obs_network.specs.Network.{Network, case_branches, case_meters, network_of}
 use Rattle.obs_network.specs.Observable.{case_rank}
-use Rattle.obs_network.specs.Parted.{HasSource, IsParted, outage_case}
+use Rattle.obs_network.specs.Parted.{outage_case}
+use Rattle.obs_network.specs.inner.Parted.{HasSource, IsParted}
 use Rattle.obs_network.proofs.OfCase.{case_position_count-le, few_branches, few_candidates, few_meters, length-case_branches, length-case_meters}
 use Rattle.obs_network.proofs.Outed.{some_of}
 use Rattle.obs_network.proofs.PartedNeeds.{Fed, Found, found, one_fed, some_fed}
 use Rattle.obs_network.proofs.SideLists.{in_side, side_in}
-use Rattle.obs_kept.specs.Kept.{AreLongest}
-use Rattle.obs_outage.specs.Lost.{IsConfined, IsUnfed, counts_at}
-use Rattle.obs_outage.specs.Settled.{IsFreed}
+use Rattle.obs_kept.specs.inner.Kept.{AreLongest}
+use Rattle.obs_outage.specs.inner.Lost.{IsConfined, IsUnfed, counts_at}
+use Rattle.obs_outage.specs.inner.Settled.{IsFreed}
 use Rattle.obs_outage.proofs.InOutage.{rank_longest}
 use Rattle.obs_outage.proofs.Losing.{any_from, any_in, ends_in, lost_pairs, same_length, sum_is}
 use Rattle.obs_outage.proofs.Unfed.{at, ends_there, gone_at, goes_on, leaves, on, rank_less, row_is, row_off, stays_off}

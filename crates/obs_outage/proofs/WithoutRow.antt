@@ -13,15 +13,16 @@ use Rattle.obs_matroid.proofs.Pairs.{In-branches, In-branches_from}
 use Rattle.obs_meter.specs.declared.Touch.{Touch}
 use Rattle.obs_meter.specs.declared.Touch.TheVariants.{Nothing}
 use Rattle.obs_meter.specs.Assignments.{IsAssignmentAt, IsRhoAt}
-use Rattle.obs_meter.specs.Sizes.{HasRoomFor, Sizes}
-use Rattle.obs_meter.specs.Touches.{AreInRange, IsInRange, every_item, live_items, touch_at, touched}
+use Rattle.obs_meter.specs.inner.Sizes.{HasRoomFor, Sizes}
+use Rattle.obs_meter.specs.Touches.{every_item, live_items, touch_at, touched}
+use Rattle.obs_meter.specs.inner.Touches.{AreInRange, IsInRange}
 use Rattle.obs_meter.proofs.Assigned.{every-to_live, rho_at-unique}
 use Rattle.obs_meter.proofs.Touched.{touched-present}
 use Rattle.obs_assign.proofs.Slotted.{IsForestAt-agree}
-use Rattle.obs_network.specs.Edited.{AreSameBut}
+use Rattle.obs_network.specs.inner.Edited.{AreSameBut}
 use Rattle.obs_network.specs.Network.{Network}
-use Rattle.obs_outage.specs.Costly.{IsCostly}
-use Rattle.obs_outage.specs.Without.{IsWithout, left_out}
+use Rattle.obs_outage.specs.inner.Costly.{IsCostly}
+use Rattle.obs_outage.specs.inner.Without.{IsWithout, left_out}
 use Rattle.obs_outage.specs.declared.rowless.Without.{Without}
 use Rattle.obs_outage.proofs.LeftOut.{left}
 use Rattle.obs_outage.proofs.Restored.{at_map}

@@ -1,12 +1,2 @@
 pub mod Outages
-pub mod Lending
-pub mod Feeds
-pub mod Spared
-pub mod Sparing
-pub mod Costly
-pub mod Alone
-pub mod Settled
-pub mod Without
-pub mod Told
-pub mod Ready
-pub mod Lost
+pub mod inner

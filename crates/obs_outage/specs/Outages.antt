@@ -1,10 +1,8 @@
 -- What becomes of a case where one branch goes out of service.
-use Rattle.std.specs.Prelude.{◌≡◌, ℕ, Bool, is_some, None, List, filter, length, map, slice_index_or}
+use Rattle.std.specs.Prelude.{ℕ, Bool, is_some, None, List, filter, length, map, slice_index_or}
 use Rattle.std.specs.List.{range_with_len}
 use Rattle.obs_case.specs.Tables.{Tables}
-use Rattle.obs_assign.specs.Assignment.{Assignment, pairs}
-use Rattle.obs_assign.specs.Still.{still}
-use Rattle.obs_network.specs.Network.{Network, case_branches, case_meters, case_needed}
+use Rattle.obs_network.specs.Network.{case_branches, case_needed}
 use Rattle.obs_network.specs.Observable.{case_rank}
 use Rattle.obs_network.specs.Parted.{outage_case}
 use Rattle.obs_outage.specs.declared.outages.Outage.{Outage}
@@ -24,13 +22,3 @@ outage_of t e = record { branch = e; rank = case_rank (outage_case t e); needed 
 -- the outage list of a case
 unfoldable pub outages_of : Tables → List Outage
 outages_of t = map (outage_of t) (outage_rows t)
-
--- every pair stands in the outage case of a branch: its meter touches its branch there too
-abbrev pub AllStand : Tables → Assignment → ℕ → Type 0
-AllStand t a e = still (case_branches (outage_case t e)) (case_meters (outage_case t e)) (pairs a) ≡ pairs a
-
--- what is kept for the outages of a case: its network, a longest assignment, and the list that was found last
-pub record Outages : Type 0 where
-  pub network : Network
-  pub pairs : Assignment
-  pub found : List Outage

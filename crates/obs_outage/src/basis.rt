@@ -1,8 +1,8 @@
 // What the outages of a case are found from.
 ghost use Rattle.std.specs.Prelude.{◌≡◌};
 ghost use Rattle.obs_network.specs.Network.{network_of};
-ghost use Rattle.obs_outage.specs.Feeds.{HasFeedRoom};
-ghost use Rattle.obs_outage.specs.Ready.{IsBasis, IsBasisOf};
+ghost use Rattle.obs_outage.specs.inner.Feeds.{HasFeedRoom};
+ghost use Rattle.obs_outage.specs.inner.Ready.{IsBasis, IsBasisOf};
 
 use crate::feeds::Feeds;
 use crate::rowless::Without;

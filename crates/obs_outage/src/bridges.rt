@@ -2,14 +2,16 @@
 ghost use Rattle.std.specs.Prelude.{◌≡◌, ◌<◌, IfSome, IsTrue, false, slice_index, sum_by, true};
 ghost use Rattle.obs_case.specs.Tables.{IsValid};
 ghost use Rattle.obs_matroid.specs.Lists.{In};
-ghost use Rattle.obs_kept.specs.Kept.{AreLongest};
+ghost use Rattle.obs_kept.specs.inner.Kept.{AreLongest};
 ghost use Rattle.obs_network.specs.Network.{case_needed, case_rows, network_of};
-ghost use Rattle.obs_network.specs.Parted.{IsSide, outage_case};
-ghost use Rattle.obs_outage.specs.Feeds.{AreFeeds, IsFall, TakesAlone};
-ghost use Rattle.obs_outage.specs.Lost.{IsUnfed};
-ghost use Rattle.obs_outage.specs.Outages.{AllStand, outage_of, outage_rows};
-ghost use Rattle.obs_outage.specs.Ready.{IsBasisOf, IsReady};
-ghost use Rattle.obs_outage.specs.Settled.{IsFreed, IsMissed};
+ghost use Rattle.obs_network.specs.Parted.{outage_case};
+ghost use Rattle.obs_network.specs.inner.Parted.{IsSide};
+ghost use Rattle.obs_outage.specs.inner.Feeds.{AreFeeds, IsFall, TakesAlone};
+ghost use Rattle.obs_outage.specs.inner.Lost.{IsUnfed};
+ghost use Rattle.obs_outage.specs.Outages.{outage_of, outage_rows};
+ghost use Rattle.obs_outage.specs.inner.Outages.{AllStand};
+ghost use Rattle.obs_outage.specs.inner.Ready.{IsBasisOf, IsReady};
+ghost use Rattle.obs_outage.specs.inner.Settled.{IsFreed, IsMissed};
 
 use crate::Outage;
 use crate::basis::Basis;

@@ -1,10 +1,10 @@
 // The branches that cost a pair: those of critical flows, and those that redundant meters touch and can't do without.
 ghost use Rattle.std.specs.Prelude.{◌≡◌, ◌<◌, ◌≤◌, ℕ, IsSome, IsTrue, None, false, length, slice_index_or, true};
-ghost use Rattle.obs_assign.specs.Assignment.{has_flag};
-ghost use Rattle.obs_exchange.specs.Laws.{HasClosedSet};
-ghost use Rattle.obs_exchange.specs.Longest.{IsLongest};
-ghost use Rattle.obs_outage.specs.Costly.{IsCostly};
-ghost use Rattle.obs_outage.specs.Sparing.{AreNeeded, AreTouchedBy, HasTouched};
+ghost use Rattle.obs_assign.specs.inner.Assignment.{has_flag};
+ghost use Rattle.obs_exchange.specs.inner.Laws.{HasClosedSet};
+ghost use Rattle.obs_exchange.specs.inner.Longest.{IsLongest};
+ghost use Rattle.obs_outage.specs.inner.Costly.{IsCostly};
+ghost use Rattle.obs_outage.specs.inner.Sparing.{AreNeeded, AreTouchedBy, HasTouched};
 
 use obs_assign::Assignment;
 use obs_graph::Graph;

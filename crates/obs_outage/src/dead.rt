@@ -2,8 +2,8 @@
 ghost use Rattle.std.specs.Prelude.{◌≡◌, ◌<◌, ◌^◌, All, IsTrue, length, count_by, sum_by};
 ghost use Rattle.obs_graph.specs.Positions.{branches_at};
 ghost use Rattle.obs_matroid.specs.Lists.{In};
-ghost use Rattle.obs_assign.specs.Assignment.{IsWhole};
-ghost use Rattle.obs_outage.specs.Lost.{IsConfined, counts_at, has_first};
+ghost use Rattle.obs_assign.specs.inner.Assignment.{IsWhole};
+ghost use Rattle.obs_outage.specs.inner.Lost.{IsConfined, counts_at, has_first};
 
 use obs_assign::Assignment;
 use obs_graph::{Ends, Graph};

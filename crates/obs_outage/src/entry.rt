@@ -1,8 +1,9 @@
 // The entry of one row.
 ghost use Rattle.std.specs.Prelude.{◌≡◌};
 ghost use Rattle.obs_matroid.specs.Lists.{In};
-ghost use Rattle.obs_outage.specs.Outages.{AllStand, outage_of, outage_rows};
-ghost use Rattle.obs_outage.specs.Ready.{IsBasisOf};
+ghost use Rattle.obs_outage.specs.Outages.{outage_of, outage_rows};
+ghost use Rattle.obs_outage.specs.inner.Outages.{AllStand};
+ghost use Rattle.obs_outage.specs.inner.Ready.{IsBasisOf};
 
 use crate::Outage;
 use crate::basis::Basis;

@@ -1,8 +1,8 @@
 // How many sources each bus and each component has.
 ghost use Rattle.std.specs.Prelude.{◌≡◌, ◌<◌, ◌≤◌, ◌^◌, ℕ, IfOk, length, slice_index};
-ghost use Rattle.obs_network.specs.Components.{source_nodes};
+ghost use Rattle.obs_network.specs.inner.Components.{source_nodes};
 ghost use Rattle.obs_network.specs.Network.{network_of};
-ghost use Rattle.obs_outage.specs.Feeds.{AreFeeds, HasFeedRoom, sources_at};
+ghost use Rattle.obs_outage.specs.inner.Feeds.{AreFeeds, HasFeedRoom, sources_at};
 
 use crate::memory::NoMemory;
 use obs_case::{Case, Node};
@@ -51,7 +51,7 @@ pub(crate) struct Feeds {
 }
 
 impl Model for Feeds {
-    ghost use Rattle.obs_outage.specs.Feeds.{Feeds};
+    ghost use Rattle.obs_outage.specs.inner.Feeds.{Feeds};
 
     ghost Value = { Feeds };
 

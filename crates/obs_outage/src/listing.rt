@@ -1,7 +1,7 @@
 // The outage list.
 ghost use Rattle.std.specs.Prelude.{◌≡◌, ◌<◌, ◌≤◌, None, is_some, length, slice_index_or, take};
 ghost use Rattle.obs_outage.specs.Outages.{outages_of};
-ghost use Rattle.obs_outage.specs.Ready.{IsBasisOf};
+ghost use Rattle.obs_outage.specs.inner.Ready.{IsBasisOf};
 
 use crate::Outage;
 use crate::basis::Basis;

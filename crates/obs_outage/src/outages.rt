@@ -3,8 +3,9 @@ ghost use Rattle.std.specs.Prelude.{◌≡◌, IfOk, []};
 ghost use Rattle.std.specs.Borrow.{sem};
 ghost use Rattle.obs_matroid.specs.Lists.{In};
 ghost use Rattle.obs_network.specs.Network.{network_of};
-ghost use Rattle.obs_kept.specs.Kept.{AreLongest, AreLongestOver};
-ghost use Rattle.obs_outage.specs.Outages.{AllStand, outage_of, outage_rows, outages_of};
+ghost use Rattle.obs_kept.specs.inner.Kept.{AreLongest, AreLongestOver};
+ghost use Rattle.obs_outage.specs.Outages.{outage_of, outage_rows, outages_of};
+ghost use Rattle.obs_outage.specs.inner.Outages.{AllStand};
 
 use crate::basis::Basis;
 use crate::entry::entry_of;
@@ -39,9 +40,9 @@ pub struct Outages {
 
 impl Model for Outages {
     ghost use Rattle.std.specs.Prelude.{◌≡◌, ◌≤◌, length, take};
-    ghost use Rattle.obs_outage.specs.Feeds.{HasFeedRoom};
-    ghost use Rattle.obs_outage.specs.Outages.{Outages};
-    ghost use Rattle.obs_outage.specs.Ready.{IsBasis};
+    ghost use Rattle.obs_outage.specs.inner.Feeds.{HasFeedRoom};
+    ghost use Rattle.obs_outage.specs.inner.Outages.{Outages};
+    ghost use Rattle.obs_outage.specs.inner.Ready.{IsBasis};
 
     ghost Value = { Outages };
 
@@ -67,7 +68,7 @@ impl Drop for Outages {
 }
 
 impl Outages {
-    ghost use Rattle.obs_outage.specs.Lending.{GivenBack};
+    ghost use Rattle.obs_outage.specs.inner.Lending.{GivenBack};
 
     /// The network of a case and a longest assignment of its meters. All memory is taken here.
     pub fn make<L: Ledger>(

@@ -1,7 +1,7 @@
 // A network without one of its rows: its graph and its meters, of which the row is left out for one search.
 ghost use Rattle.std.specs.Prelude.{◌≡◌, ◌<◌, IfOk, length, map, slice_index_or};
 ghost use Rattle.obs_meter.specs.declared.Touch.TheVariants.{Nothing};
-ghost use Rattle.obs_outage.specs.Without.{IsCopy, IsWithout, left_out};
+ghost use Rattle.obs_outage.specs.inner.Without.{IsCopy, IsWithout, left_out};
 
 use crate::memory::NoMemory;
 use obs_graph::{Ends, Graph};

@@ -1,15 +1,16 @@
 // The short way of one outage: one search, from the critical meter that has the row, over the network without it.
 ghost use Rattle.std.specs.Prelude.{◌≡◌, ◌<◌, ℕ, Some, false, length};
 ghost use Rattle.obs_graph.specs.Positions.{AreBranches};
-ghost use Rattle.obs_meter.specs.Sizes.{HasRoomFor};
+ghost use Rattle.obs_meter.specs.inner.Sizes.{HasRoomFor};
 ghost use Rattle.obs_meter.specs.Touches.{live_items};
-ghost use Rattle.obs_assign.specs.Assignment.{Assignment, HasRoomOf, StandsOver, branch_at, has_flag};
+ghost use Rattle.obs_assign.specs.Assignment.{Assignment};
+ghost use Rattle.obs_assign.specs.inner.Assignment.{HasRoomOf, StandsOver, branch_at, has_flag};
 ghost use Rattle.obs_exchange.specs.Critical.{IsCriticalAt};
-ghost use Rattle.obs_kept.specs.Kept.{AreLongestOver};
-ghost use Rattle.obs_outage.specs.Alone.{HasLost};
-ghost use Rattle.obs_outage.specs.Ready.{IsReady};
-ghost use Rattle.obs_outage.specs.Settled.{IsMissed, IsRankWithout, IsSettled};
-ghost use Rattle.obs_outage.specs.Without.{IsWithout};
+ghost use Rattle.obs_kept.specs.inner.Kept.{AreLongestOver};
+ghost use Rattle.obs_outage.specs.inner.Alone.{HasLost};
+ghost use Rattle.obs_outage.specs.inner.Ready.{IsReady};
+ghost use Rattle.obs_outage.specs.inner.Settled.{IsMissed, IsRankWithout, IsSettled};
+ghost use Rattle.obs_outage.specs.inner.Without.{IsWithout};
 
 use crate::rowless::Without;
 use crate::spared::Spared;

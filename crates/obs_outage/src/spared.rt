@@ -2,12 +2,13 @@
 ghost use Rattle.std.specs.Prelude.{◌≡◌, ◌<◌, ◌≤◌, ℕ, All, IfOk, None, false, length, slice_index_or, take, true};
 ghost use Rattle.obs_graph.specs.Positions.{branches_at};
 ghost use Rattle.obs_meter.specs.declared.Touch.TheVariants.{Nothing};
-ghost use Rattle.obs_meter.specs.Touches.{AreInRange, IsInRange, touch_at};
-ghost use Rattle.obs_assign.specs.Assignment.{has_flag};
+ghost use Rattle.obs_meter.specs.Touches.{touch_at};
+ghost use Rattle.obs_meter.specs.inner.Touches.{AreInRange, IsInRange};
+ghost use Rattle.obs_assign.specs.inner.Assignment.{has_flag};
 ghost use Rattle.obs_network.specs.Network.{network_of};
-ghost use Rattle.obs_kept.specs.Kept.{AreLongest, HasRoom};
-ghost use Rattle.obs_outage.specs.Sparing.{AreMissed, AreNeeded, ArePaired, ArePut, AreTouchedBy, CanBeMissed, HasFlags, HasFronts, HasPut, HasTouched, IsNeeded};
-ghost use Rattle.obs_outage.specs.Told.{AreTold};
+ghost use Rattle.obs_kept.specs.inner.Kept.{AreLongest, HasRoom};
+ghost use Rattle.obs_outage.specs.inner.Sparing.{AreMissed, AreNeeded, ArePaired, ArePut, AreTouchedBy, CanBeMissed, HasFlags, HasFronts, HasPut, HasTouched, IsNeeded};
+ghost use Rattle.obs_outage.specs.inner.Told.{AreTold};
 
 use crate::costly::flag_costly;
 use crate::memory::NoMemory;
@@ -195,7 +196,7 @@ pub(crate) struct Spared {
 
 impl Model for Spared {
     ghost use Rattle.std.specs.Prelude.{◌≡◌, length};
-    ghost use Rattle.obs_outage.specs.Sparing.{Spared};
+    ghost use Rattle.obs_outage.specs.inner.Sparing.{Spared};
 
     ghost Value = { Spared };
 

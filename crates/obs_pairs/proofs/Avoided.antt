@@ -3,34 +3,38 @@ use Rattle.std.proofs.Common.{◌≡◌, ℕ, ◌<◌, Bool, true, false, not, �
 use Rattle.std.proofs.lemmas.Bool.{and_parts, cases_eq, ne_eqb, not-true, or_cases, or_left, or_right}
 use Rattle.obs_graph.specs.Graph.{Graph}
 use Rattle.obs_graph.specs.Positions.{AreBranches}
-use Rattle.obs_matroid.specs.Assignments.{IsAssignment, IsRho, Pair, items}
-use Rattle.obs_matroid.specs.Closed.{HoldsSources, IsClosed, every, none}
-use Rattle.obs_matroid.specs.Critical.{IsCritical}
+use Rattle.obs_matroid.specs.Assignments.{IsAssignment, Pair, items}
+use Rattle.obs_matroid.specs.inner.Assignments.{IsRho}
+use Rattle.obs_matroid.specs.inner.Closed.{HoldsSources, IsClosed, every, none}
+use Rattle.obs_matroid.specs.inner.Critical.{IsCritical}
 use Rattle.obs_matroid.specs.Lists.{In, IsDistinct, other_than, without}
-use Rattle.obs_matroid.specs.Matroid.{IsMatroid, Matroid}
+use Rattle.obs_matroid.specs.Matroid.{Matroid}
+use Rattle.obs_matroid.specs.inner.Matroid.{IsMatroid}
 use Rattle.obs_matroid.proofs.Closed.{IsClosed-union}
 use Rattle.obs_matroid.proofs.Critical.{closed_tight, longest_from_closed, tight_outside}
 use Rattle.obs_matroid.proofs.Heredity.{critical_within}
 use Rattle.obs_matroid.proofs.Pairs.{In-items}
 use Rattle.obs_matroid.proofs.Lists.{IsDistinct-filter, In-filter, In-filter_from, clash, other_ne, other_true}
 use Rattle.obs_meter.specs.declared.Touch.{Touch}
-use Rattle.obs_meter.specs.Lost.{left_of, losing}
+use Rattle.obs_meter.specs.Lost.{losing}
+use Rattle.obs_meter.specs.inner.Lost.{left_of}
 use Rattle.obs_meter.specs.Spanned.{graph_matroid}
 use Rattle.obs_meter.specs.Touches.{is_live, live_items, touch_at}
 use Rattle.obs_meter.proofs.Assigned.{every-to_live, live-to_every, live_items-distinct, rho-to_matroid}
 use Rattle.obs_meter.proofs.Instance.{IsMatroid-graph}
 use Rattle.obs_meter.proofs.Lost.{live-losing}
 use Rattle.obs_meter.proofs.Live.{In-live, live-from_live_items}
-use Rattle.obs_assign.specs.Assignment.{Assignment, branch_at, is_frozen, pairs}
+use Rattle.obs_assign.specs.Assignment.{Assignment}
+use Rattle.obs_assign.specs.inner.Assignment.{branch_at, is_frozen, pairs}
 use Rattle.obs_assign.proofs.Standing.{IsAssignmentAt-standing}
 use Rattle.obs_exchange.specs.Critical.{critical_at}
-use Rattle.obs_exchange.specs.Longest.{IsLongest}
-use Rattle.obs_exchange.specs.Ordered.{IsLeastClosedFrom}
+use Rattle.obs_exchange.specs.inner.Longest.{IsLongest}
+use Rattle.obs_exchange.specs.inner.Ordered.{IsLeastClosedFrom}
 use Rattle.obs_exchange.proofs.AtGraph.{IsAssignment-live, IsClosed-to_matroid, bare-from_out, out-from_bare}
 use Rattle.obs_exchange.proofs.Lawful.{IsCritical-from_matroid, IsCritical-to_matroid, critical_at-exactly}
 use Rattle.obs_exchange.proofs.Losing.{most-left, most-longest, stands-left}
 use Rattle.obs_pairs.specs.Partners.{class_at}
-use Rattle.obs_pairs.specs.Settled.{redundant_at}
+use Rattle.obs_pairs.specs.inner.Settled.{redundant_at}
 use Rattle.obs_pairs.proofs.Left.{critical-left}
 use Rattle.obs_pairs.proofs.Partnered.{classes_at, newly_critical_at, partners_at-both_ways, redundant-from, redundant-parts}
 

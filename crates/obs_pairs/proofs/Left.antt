@@ -7,14 +7,16 @@ use Rattle.obs_matroid.specs.Lists.{In, other_than, without}
 use Rattle.obs_matroid.proofs.Lists.{In-filter_from, filter_all, filter_same}
 use Rattle.obs_meter.specs.declared.Touch.{Touch}
 use Rattle.obs_meter.specs.Assignments.{IsRhoAt}
-use Rattle.obs_meter.specs.Lost.{is_listed, left_of, losing}
+use Rattle.obs_meter.specs.Lost.{is_listed, losing}
+use Rattle.obs_meter.specs.inner.Lost.{left_of}
 use Rattle.obs_meter.specs.Touches.{live_items}
 use Rattle.obs_meter.proofs.Assigned.{every-to_live}
 use Rattle.obs_meter.proofs.Lost.{live_items-losing, rho-left, rho-lost}
-use Rattle.obs_assign.specs.Assignment.{Assignment, pairs}
+use Rattle.obs_assign.specs.Assignment.{Assignment}
+use Rattle.obs_assign.specs.inner.Assignment.{pairs}
 use Rattle.obs_assign.proofs.Standing.{IsAssignmentAt-standing}
 use Rattle.obs_exchange.specs.Critical.{IsCriticalAt}
-use Rattle.obs_exchange.specs.Longest.{IsLongest}
+use Rattle.obs_exchange.specs.inner.Longest.{IsLongest}
 use Rattle.obs_exchange.proofs.Losing.{stands-all}
 
 -- over items that aren't lost the greatest length is as it was

@@ -8,7 +8,8 @@ use Rattle.obs_meter.specs.declared.Touch.TheVariants.{Nothing}
 use Rattle.obs_meter.specs.Held.{Meters}
 use Rattle.obs_meter.specs.Lost.{losing}
 use Rattle.obs_meter.proofs.Lost.{length-losing, losing-is}
-use Rattle.obs_assign.specs.Assignment.{Assignment, Fits, IsWhole, StandsOver}
+use Rattle.obs_assign.specs.Assignment.{Assignment}
+use Rattle.obs_assign.specs.inner.Assignment.{Fits, IsWhole, StandsOver}
 
 -- the meters below i touch what they do, or nothing where they are lost
 pub record AreLeft (lost : ℕ → Bool) (touches : List Touch) (before after : Meters) (i : ℕ) : Type 0 where

@@ -7,20 +7,22 @@ use Rattle.obs_matroid.proofs.Contained.{All-from_In}
 use Rattle.obs_meter.specs.declared.Touch.{Touch}
 use Rattle.obs_meter.specs.Held.{Meters}
 use Rattle.obs_meter.specs.Lost.{losing}
-use Rattle.obs_meter.specs.Sizes.{HasRoomFor}
-use Rattle.obs_meter.specs.Touches.{AreInRange, is_live}
+use Rattle.obs_meter.specs.inner.Sizes.{HasRoomFor}
+use Rattle.obs_meter.specs.Touches.{is_live}
+use Rattle.obs_meter.specs.inner.Touches.{AreInRange}
 use Rattle.obs_meter.proofs.Live.{live_low}
 use Rattle.obs_meter.proofs.Lost.{in_range-losing, length-losing, room-losing}
-use Rattle.obs_assign.specs.Assignment.{Assignment, HasRoomOf, pairs}
+use Rattle.obs_assign.specs.Assignment.{Assignment}
+use Rattle.obs_assign.specs.inner.Assignment.{HasRoomOf, pairs}
 use Rattle.obs_exchange.specs.Critical.{critical_at}
 use Rattle.obs_exchange.specs.declared.over.Over.{Over}
-use Rattle.obs_exchange.specs.Found.{Work}
-use Rattle.obs_exchange.specs.Longest.{IsLongest, IsMost}
+use Rattle.obs_exchange.specs.inner.Found.{Work}
+use Rattle.obs_exchange.specs.inner.Longest.{IsLongest, IsMost}
 use Rattle.obs_exchange.proofs.Lengthening.{room_again, rooms}
 use Rattle.obs_exchange.proofs.Losing.{most-left, most-longest}
-use Rattle.obs_pairs.specs.Moved.{IsMoved, MayLose, MaySearch}
+use Rattle.obs_pairs.specs.inner.Moved.{IsMoved, MayLose, MaySearch}
 use Rattle.obs_pairs.specs.declared.room.Room.{Room}
-use Rattle.obs_pairs.specs.Settled.{redundant_at}
+use Rattle.obs_pairs.specs.inner.Settled.{redundant_at}
 
 -- other pairs, as many as before
 pub IsMoved-to : {o : Over} {a b : Assignment} {r q : Room} → IsLongest o.graph.now o.meters.now.touches b → q.left ≡ r.left → HasRoomOf a b → q.exchange.sizes ≡ r.exchange.sizes

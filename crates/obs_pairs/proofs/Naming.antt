@@ -7,7 +7,7 @@ use Rattle.obs_graph.specs.declared.Ends.{Ends}
 use Rattle.obs_graph.specs.Positions.{AreBranches}
 use Rattle.obs_meter.specs.declared.Touch.{Touch}
 use Rattle.obs_pairs.specs.Partners.{class_at, classes_of}
-use Rattle.obs_pairs.specs.Settled.{AreKeyed}
+use Rattle.obs_pairs.specs.inner.Settled.{AreKeyed}
 use Rattle.obs_pairs.proofs.Partnered.{class_again, class_low}
 
 -- below i the list has the first meters; from i on it has keys still, and at the key of a class that begins below i its first

@@ -4,7 +4,8 @@ use Rattle.std.proofs.lemmas.Bool.{and_from, and_parts, cases_Bool, cases_lt, eq
 use Rattle.obs_graph.specs.declared.Ends.{Ends}
 use Rattle.obs_graph.specs.Positions.{AreBranches}
 use Rattle.obs_matroid.specs.Lists.{In, IsDistinct, IsRising, other_than, without}
-use Rattle.obs_matroid.specs.Partners.{ArePartners, first_passing}
+use Rattle.obs_matroid.specs.Partners.{first_passing}
+use Rattle.obs_matroid.specs.inner.Partners.{ArePartners}
 use Rattle.obs_matroid.proofs.Lists.{In-filter, In-filter_from, clash, other_true}
 use Rattle.obs_matroid.proofs.Partners.{is_partner_is, newly_critical, one_class, partners_apart, partners_both_ways, partners_in, partners_together}
 use Rattle.obs_matroid.proofs.Ranges.{range_rising, rising_filter}
@@ -17,8 +18,9 @@ use Rattle.obs_meter.proofs.Instance.{IsMatroid-graph}
 use Rattle.obs_meter.proofs.Live.{In-live, live-from_live_items}
 use Rattle.obs_exchange.specs.Critical.{IsCriticalAt, critical_at}
 use Rattle.obs_exchange.proofs.Lawful.{IsCritical-from_matroid, IsCritical-to_matroid, critical_at-exactly}
-use Rattle.obs_pairs.specs.Partners.{ArePartnersAt, IsFirstOfClass, class_at, partner_at}
-use Rattle.obs_pairs.specs.Settled.{redundant_at}
+use Rattle.obs_pairs.specs.Partners.{class_at}
+use Rattle.obs_pairs.specs.inner.Partners.{ArePartnersAt, IsFirstOfClass, partner_at}
+use Rattle.obs_pairs.specs.inner.Settled.{redundant_at}
 
 -- the first that passes does pass, and stands no later than any that does
 first_passes : (test : ℕ → Bool) (d : ℕ) (xs : List ℕ) → test d ≡ true → test (first_passing test d xs) ≡ true

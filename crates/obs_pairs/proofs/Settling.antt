@@ -7,11 +7,11 @@ use Rattle.obs_graph.specs.declared.Ends.{Ends}
 use Rattle.obs_graph.specs.Positions.{AreBranches}
 use Rattle.obs_matroid.proofs.Lists.{clash}
 use Rattle.obs_meter.specs.declared.Touch.{Touch}
-use Rattle.obs_assign.specs.Assignment.{has_flag}
-use Rattle.obs_exchange.specs.Blank.{AreNumbers}
-use Rattle.obs_pairs.specs.PairWork.{AreFirst}
+use Rattle.obs_assign.specs.inner.Assignment.{has_flag}
+use Rattle.obs_exchange.specs.inner.Blank.{AreNumbers}
+use Rattle.obs_pairs.specs.inner.PairWork.{AreFirst}
 use Rattle.obs_pairs.specs.Partners.{class_at, classes_of}
-use Rattle.obs_pairs.specs.Settled.{AreKeyed, AreSettled, LacksClass, redundant_at}
+use Rattle.obs_pairs.specs.inner.Settled.{AreKeyed, AreSettled, LacksClass, redundant_at}
 use Rattle.obs_pairs.proofs.Partnered.{class_again, class_alone, class_low, class_redundant}
 
 module _ (n : ℕ) (ends : List (Option Ends)) (touches : List Touch) (ok : AreBranches n ends) where

@@ -7,8 +7,9 @@ use Rattle.std.proofs.lemmas.List.{get_or-set_other, get_or-set_same, length-set
 use Rattle.obs_matroid.specs.Lists.{In}
 use Rattle.obs_matroid.proofs.Lists.{clash}
 use Rattle.obs_matroid.proofs.Ranges.{below_from, below_in}
-use Rattle.obs_assign.specs.Assignment.{has_flag}
-use Rattle.obs_pairs.specs.PairWork.{AreFirst, AreShared, has_another}
+use Rattle.obs_assign.specs.inner.Assignment.{has_flag}
+use Rattle.obs_pairs.specs.PairWork.{has_another}
+use Rattle.obs_pairs.specs.inner.PairWork.{AreFirst, AreShared}
 
 -- some entry passes
 any_in : (test : ℕ → Bool) (xs : List ℕ) → list_any test xs ≡ true → (j : ℕ) × In j xs × (test j ≡ true)

@@ -5,7 +5,7 @@ use Rattle.std.proofs.lemmas.Bool.{and_from, and_parts, cases_Bool, cases_lt, eq
 use Rattle.std.proofs.lemmas.List.{get_or-take, get_or_default, length-take-le}
 use Rattle.obs_graph.specs.Graph.{Graph}
 use Rattle.obs_graph.specs.Positions.{AreBranches}
-use Rattle.obs_matroid.specs.Closed.{every}
+use Rattle.obs_matroid.specs.inner.Closed.{every}
 use Rattle.obs_matroid.proofs.Comparing.{cases_Option}
 use Rattle.obs_matroid.proofs.Contained.{Contains-from_In, In-get_or}
 use Rattle.obs_matroid.proofs.Lists.{clash}
@@ -15,14 +15,15 @@ use Rattle.obs_meter.specs.Lost.{is_listed, losing}
 use Rattle.obs_meter.specs.Touches.{is_live}
 use Rattle.obs_meter.proofs.Live.{live_low}
 use Rattle.obs_meter.proofs.Touched.{In-from_any, any-from_In}
-use Rattle.obs_assign.specs.Assignment.{Assignment, branch_at, has_flag}
+use Rattle.obs_assign.specs.Assignment.{Assignment}
+use Rattle.obs_assign.specs.inner.Assignment.{branch_at, has_flag}
 use Rattle.obs_exchange.specs.Critical.{critical_at}
-use Rattle.obs_exchange.specs.Longest.{IsLongest}
-use Rattle.obs_exchange.specs.Ordered.{AreReachedInOrder, IsLeastClosedFrom, IsOrder, reached_before}
+use Rattle.obs_exchange.specs.inner.Longest.{IsLongest}
+use Rattle.obs_exchange.specs.inner.Ordered.{AreReachedInOrder, IsLeastClosedFrom, IsOrder, reached_before}
 use Rattle.obs_exchange.proofs.Placing.{front-left}
 use Rattle.obs_pairs.specs.Partners.{class_at}
-use Rattle.obs_pairs.specs.Settled.{AreSettled, redundant_at}
-use Rattle.obs_pairs.specs.Split.{AreInOrder, is_bare, is_same, number_at}
+use Rattle.obs_pairs.specs.inner.Settled.{AreSettled, redundant_at}
+use Rattle.obs_pairs.specs.inner.Split.{AreInOrder, is_bare, is_same, number_at}
 use Rattle.obs_pairs.proofs.Avoided.{IsAvoided, apart_lost, avoided_all, avoided_both, avoided_front, avoided_less, class_of_avoided, longest_left}
 use Rattle.obs_pairs.proofs.Unreached.{least_redundant}
 

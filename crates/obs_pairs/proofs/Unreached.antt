@@ -13,17 +13,18 @@ use Rattle.obs_meter.specs.Touches.{is_live, live_items}
 use Rattle.obs_meter.specs.Assignments.{IsRhoAt}
 use Rattle.obs_meter.proofs.Assigned.{live_items-distinct}
 use Rattle.obs_meter.proofs.Lost.{live-losing, losing-none}
-use Rattle.obs_assign.specs.Assignment.{Assignment, has_flag, pairs}
+use Rattle.obs_assign.specs.Assignment.{Assignment}
+use Rattle.obs_assign.specs.inner.Assignment.{has_flag, pairs}
 use Rattle.obs_exchange.specs.Critical.{IsCriticalAt, critical_at}
 use Rattle.obs_exchange.specs.declared.Sources.TheVariants.{All}
-use Rattle.obs_exchange.specs.Closed.{IsLeastClosedAt}
-use Rattle.obs_exchange.specs.Found.{HasClosed}
-use Rattle.obs_exchange.specs.Longest.{IsLongest}
+use Rattle.obs_exchange.specs.inner.Closed.{IsLeastClosedAt}
+use Rattle.obs_exchange.specs.inner.Found.{HasClosed}
+use Rattle.obs_exchange.specs.inner.Longest.{IsLongest}
 use Rattle.obs_exchange.proofs.Lawful.{closed_noncritical, critical_at-exactly}
 use Rattle.obs_exchange.proofs.Losing.{rho-live_left}
 use Rattle.obs_pairs.proofs.Left.{IsLongest-all, critical-left, left_of-one}
 use Rattle.obs_pairs.specs.Partners.{class_at}
-use Rattle.obs_pairs.specs.Settled.{LacksClass, redundant_at}
+use Rattle.obs_pairs.specs.inner.Settled.{LacksClass, redundant_at}
 use Rattle.obs_pairs.proofs.Partnered.{classes_at, newly_critical_at, partners_at-both_ways, redundant-parts, rho-redundant}
 
 -- the least closed set of all sources has the redundant ones

@@ -1,5 +1,3 @@
 pub mod Partners
 pub mod PairWork
-pub mod Settled
-pub mod Split
-pub mod Moved
+pub mod inner

@@ -1,8 +1,8 @@
 // What a search reaches when a meter is lost.
 ghost use Rattle.std.specs.Prelude.{◌≡◌, true, length};
-ghost use Rattle.obs_assign.specs.Assignment.{has_flag};
-ghost use Rattle.obs_pairs.specs.Moved.{IsMoved, MayLose};
-ghost use Rattle.obs_pairs.specs.Settled.{LacksClass, redundant_at};
+ghost use Rattle.obs_assign.specs.inner.Assignment.{has_flag};
+ghost use Rattle.obs_pairs.specs.inner.Moved.{IsMoved, MayLose};
+ghost use Rattle.obs_pairs.specs.inner.Settled.{LacksClass, redundant_at};
 
 use crate::room::Room;
 use obs_assign::{Assignment, Steps};

@@ -6,7 +6,8 @@ ghost use Rattle.obs_matroid.specs.Lists.{In, IsDistinct, without};
 ghost use Rattle.obs_meter.specs.declared.Touch.{Touch};
 ghost use Rattle.obs_meter.specs.Touches.{is_live, live_items};
 ghost use Rattle.obs_exchange.specs.Critical.{IsCriticalAt, critical_at};
-ghost use Rattle.obs_pairs.specs.Partners.{ArePartnersAt, IsFirstOfClass, class_at, partner_at};
+ghost use Rattle.obs_pairs.specs.Partners.{class_at};
+ghost use Rattle.obs_pairs.specs.inner.Partners.{ArePartnersAt, IsFirstOfClass, partner_at};
 
 /// The computed partners are the meters without which, both lost, the greatest length falls, though neither is
 /// critical. In any list of meters the partners of one that isn't critical are those that become critical without it.

@@ -1,7 +1,7 @@
 // Meters that are lost, and given back.
 ghost use Rattle.std.specs.Prelude.{◌≡◌, ◌<◌, if◌then◌else◌, length, slice_index_or};
 ghost use Rattle.obs_meter.specs.Lost.{losing};
-ghost use Rattle.obs_assign.specs.Assignment.{has_flag};
+ghost use Rattle.obs_assign.specs.inner.Assignment.{has_flag};
 
 use obs_meter::{Meters, Touch};
 

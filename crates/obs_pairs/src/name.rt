@@ -2,7 +2,7 @@
 ghost use Rattle.std.specs.Prelude.{◌≡◌};
 ghost use Rattle.obs_graph.specs.Positions.{AreBranches};
 ghost use Rattle.obs_pairs.specs.Partners.{classes_of};
-ghost use Rattle.obs_pairs.specs.Settled.{AreKeyed};
+ghost use Rattle.obs_pairs.specs.inner.Settled.{AreKeyed};
 
 use obs_graph::Graph;
 use obs_meter::Meters;

@@ -1,7 +1,7 @@
 // The first and the last meter without a pair from which another is reached.
 ghost use Rattle.std.specs.Prelude.{◌≡◌, ◌&&◌, ◌<◌, ◌^◌, if◌then◌else◌, ℕ, not, length, slice_index};
-ghost use Rattle.obs_assign.specs.Assignment.{has_flag};
-ghost use Rattle.obs_pairs.specs.Split.{AreInOrder, is_same, number_at};
+ghost use Rattle.obs_assign.specs.inner.Assignment.{has_flag};
+ghost use Rattle.obs_pairs.specs.inner.Split.{AreInOrder, is_same, number_at};
 
 // The meter at a place of the order in which their numbers rise or fall.
 fn number_of(falls: bool, count: usize, k: usize) -> u32

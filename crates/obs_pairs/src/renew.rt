@@ -1,6 +1,6 @@
 // Other pairs, that leave meters without one whose class isn't known yet.
 ghost use Rattle.std.specs.Prelude.{◌≡◌, length};
-ghost use Rattle.obs_pairs.specs.Moved.{IsMoved, MayLose};
+ghost use Rattle.obs_pairs.specs.inner.Moved.{IsMoved, MayLose};
 
 use crate::lost::{lose_marked, restore};
 use crate::room::Room;

@@ -1,7 +1,7 @@
 // Splits with other pairs each time, as long as they settle enough.
 ghost use Rattle.std.specs.Prelude.{◌≡◌, ◌≤◌, length};
-ghost use Rattle.obs_pairs.specs.Moved.{IsMoved, MayLose};
-ghost use Rattle.obs_pairs.specs.Settled.{AreSettled};
+ghost use Rattle.obs_pairs.specs.inner.Moved.{IsMoved, MayLose};
+ghost use Rattle.obs_pairs.specs.inner.Settled.{AreSettled};
 
 use crate::renew::renew;
 use crate::room::Room;

@@ -1,10 +1,10 @@
 // Classes, settled one after the other.
 ghost use Rattle.std.specs.Prelude.{◌≡◌, ◌&&◌, ◌<◌, ◌≤◌, ◌^◌, if◌then◌else◌, ℕ, not, length, slice_index, take};
-ghost use Rattle.obs_assign.specs.Assignment.{has_flag};
-ghost use Rattle.obs_exchange.specs.Blank.{AreNumbers};
-ghost use Rattle.obs_pairs.specs.Moved.{IsMoved, MayLose};
+ghost use Rattle.obs_assign.specs.inner.Assignment.{has_flag};
+ghost use Rattle.obs_exchange.specs.inner.Blank.{AreNumbers};
+ghost use Rattle.obs_pairs.specs.inner.Moved.{IsMoved, MayLose};
 ghost use Rattle.obs_pairs.specs.Partners.{classes_of};
-ghost use Rattle.obs_pairs.specs.Settled.{AreKeyed, AreSettled};
+ghost use Rattle.obs_pairs.specs.inner.Settled.{AreKeyed, AreSettled};
 
 use crate::lacking::search_without;
 use crate::name::name_all;

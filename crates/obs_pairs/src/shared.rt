@@ -1,6 +1,6 @@
 // Which meters share their class.
 ghost use Rattle.std.specs.Prelude.{◌≡◌, ◌≤◌, length};
-ghost use Rattle.obs_pairs.specs.PairWork.{AreFirst, AreShared};
+ghost use Rattle.obs_pairs.specs.inner.PairWork.{AreFirst, AreShared};
 
 /// Marks the meters whose class another has too, in one pass: each that isn't the first of its class, and with it that
 /// first one.

@@ -1,9 +1,9 @@
 // The classes of all meters without a pair, settled at once.
 ghost use Rattle.std.specs.Prelude.{◌≡◌, ◌+◌, ◌≤◌, length};
-ghost use Rattle.obs_exchange.specs.Ordered.{AreReachedInOrder};
-ghost use Rattle.obs_pairs.specs.Moved.{IsMoved, MayLose, MaySearch};
-ghost use Rattle.obs_pairs.specs.Settled.{AreSettled};
-ghost use Rattle.obs_pairs.specs.Split.{AreInOrder};
+ghost use Rattle.obs_exchange.specs.inner.Ordered.{AreReachedInOrder};
+ghost use Rattle.obs_pairs.specs.inner.Moved.{IsMoved, MayLose, MaySearch};
+ghost use Rattle.obs_pairs.specs.inner.Settled.{AreSettled};
+ghost use Rattle.obs_pairs.specs.inner.Split.{AreInOrder};
 
 use crate::reach::{keep_first, settle_same, write_order};
 use crate::room::Room;

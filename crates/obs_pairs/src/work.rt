@@ -1,9 +1,9 @@
 // Classes of partners, and what they are found in.
 ghost use Rattle.std.specs.Prelude.{◌≡◌, ◌<◌, [], IfOk, length};
-ghost use Rattle.obs_meter.specs.Sizes.{HasRoomFor};
-ghost use Rattle.obs_meter.specs.Touches.{AreInRange};
-ghost use Rattle.obs_assign.specs.Assignment.{HasRoomOf};
-ghost use Rattle.obs_exchange.specs.Longest.{IsLongest};
+ghost use Rattle.obs_meter.specs.inner.Sizes.{HasRoomFor};
+ghost use Rattle.obs_meter.specs.inner.Touches.{AreInRange};
+ghost use Rattle.obs_assign.specs.inner.Assignment.{HasRoomOf};
+ghost use Rattle.obs_exchange.specs.inner.Longest.{IsLongest};
 ghost use Rattle.obs_pairs.specs.PairWork.{has_another};
 ghost use Rattle.obs_pairs.specs.Partners.{classes_of};
 
@@ -33,7 +33,7 @@ pub struct PairWork {
 
 impl Model for PairWork {
     ghost use Rattle.std.specs.Prelude.{◌≡◌, ◌+◌, ◌≤◌, length, take};
-    ghost use Rattle.obs_pairs.specs.PairWork.{AreShared, PairWork};
+    ghost use Rattle.obs_pairs.specs.inner.PairWork.{AreShared, PairWork};
 
     ghost Value = { PairWork };
 

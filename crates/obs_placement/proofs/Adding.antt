@@ -8,8 +8,10 @@ use Rattle.std.proofs.lemmas.List.{length-append}
 use Rattle.obs_graph.specs.Graph.{Graph}
 use Rattle.obs_matroid.proofs.Lists.{filter_same, length-split}
 use Rattle.obs_meter.specs.declared.Touch.{Touch}
-use Rattle.obs_placement.specs.Layers.{added_items, count_known, is_added}
-use Rattle.obs_placement.specs.Taking.{AreKnown, is_listed_at, never, since_at}
+use Rattle.obs_placement.specs.Layers.{added_items}
+use Rattle.obs_placement.specs.inner.Layers.{count_known, is_added}
+use Rattle.obs_placement.specs.Taking.{is_listed_at}
+use Rattle.obs_placement.specs.inner.Taking.{AreKnown, never, since_at}
 
 module _ (since : List ℕ) where
   abbrev n : ℕ

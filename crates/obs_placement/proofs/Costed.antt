@@ -7,9 +7,10 @@ use Rattle.std.proofs.lemmas.List.Elements.{filter-append}
 use Rattle.obs_graph.specs.declared.Ends.{Ends}
 use Rattle.obs_graph.specs.Positions.{AreBranches}
 use Rattle.obs_matroid.specs.Lists.{In}
-use Rattle.obs_matroid.specs.Assignments.{IsRho}
-use Rattle.obs_matroid.specs.Bounds.{bound}
-use Rattle.obs_matroid.specs.Placement.{Layer, RunOn, RunsThrough, layers_sum, IsShown, below, is_raising}
+use Rattle.obs_matroid.specs.inner.Assignments.{IsRho}
+use Rattle.obs_matroid.specs.inner.Bounds.{bound}
+use Rattle.obs_matroid.specs.Placement.{Layer, RunOn, layers_sum, IsShown, below, is_raising}
+use Rattle.obs_matroid.specs.inner.Placement.{RunsThrough}
 use Rattle.obs_matroid.specs.Values.{is_critical}
 use Rattle.obs_matroid.proofs.Answer.{answer_cost, answer_lacks}
 use Rattle.obs_matroid.proofs.Computed.{noncritical_tight}
@@ -26,7 +27,8 @@ use Rattle.obs_rankcut.specs.Costs.{live_candidates, live_meters, price_of}
 use Rattle.obs_exchange.specs.Laws.{noncritical_in}
 use Rattle.obs_placement.specs.Answer.{chosen_of, cost_of, earlier_items, is_chosen}
 use Rattle.obs_placement.specs.Layers.{added_items, is_price_of, layers_of, layer_outside, layer_rank, prices_above}
-use Rattle.obs_placement.specs.Shown.{bare_layer, bare_layers}
+use Rattle.obs_placement.specs.Shown.{bare_layer}
+use Rattle.obs_placement.specs.inner.Shown.{bare_layers}
 use Rattle.obs_placement.specs.Taking.{is_below, is_listed_at, scope_of}
 use Rattle.obs_placement.proofs.Growing.{AreRising, prices_rising, scope_distinct, scope_from}
 use Rattle.obs_placement.proofs.Lawful.{es, xs, answer, apart, base, in_order, order_price, same_length, sorted_from, sorted_in, sorted_sum}

@@ -6,8 +6,8 @@ use Rattle.std.proofs.lemmas.List.{get_or_default, get_or_past, length-set, same
 use Rattle.obs_graph.specs.Graph.{Graph}
 use Rattle.obs_graph.specs.Positions.{AreBranches, branches_at}
 use Rattle.obs_matroid.specs.Lists.{In, other_than}
-use Rattle.obs_matroid.specs.Assignments.{others, part}
-use Rattle.obs_matroid.specs.Matroid.{IsMatroid}
+use Rattle.obs_matroid.specs.inner.Assignments.{others, part}
+use Rattle.obs_matroid.specs.inner.Matroid.{IsMatroid}
 use Rattle.obs_matroid.proofs.Contained.{In-get_or}
 use Rattle.obs_matroid.proofs.Lists.{In-append_cases, In-append_left, In-append_right, cases_In, clash, other_true}
 use Rattle.obs_matroid.proofs.Pairs.{In-branches, In-part, In-part_from, less_pairs, own}
@@ -18,13 +18,14 @@ use Rattle.obs_meter.specs.Spanned.{graph_matroid}
 use Rattle.obs_meter.specs.Touches.{touch_at}
 use Rattle.obs_meter.proofs.Instance.{IsMatroid-graph}
 use Rattle.obs_meter.proofs.Touched.{In-take_more}
-use Rattle.obs_assign.specs.Assignment.{Assignment, IsWhole, StandsOver, branch_at, has_flag, is_frozen, pairs}
-use Rattle.obs_assign.specs.Pins.{IsPinnedAt, MayPin, joins}
+use Rattle.obs_assign.specs.Assignment.{Assignment}
+use Rattle.obs_assign.specs.inner.Assignment.{IsWhole, StandsOver, branch_at, has_flag, is_frozen, pairs}
+use Rattle.obs_assign.specs.inner.Pins.{IsPinnedAt, MayPin, joins}
 use Rattle.obs_assign.proofs.Slotted.{none_some}
-use Rattle.obs_exchange.specs.Found.{AreListed}
+use Rattle.obs_exchange.specs.inner.Found.{AreListed}
 use Rattle.obs_exchange.proofs.AtGraph.{IsAssignment-live}
-use Rattle.obs_placement.specs.Holding.{AreFrontsOfKnown, AreTouchedByKnown, IsTouchedByKnown}
-use Rattle.obs_placement.specs.Taking.{AreAdded, AreKept, StandsWithKnown, is_known, never, since_after, since_at}
+use Rattle.obs_placement.specs.inner.Holding.{AreFrontsOfKnown, AreTouchedByKnown, IsTouchedByKnown}
+use Rattle.obs_placement.specs.inner.Taking.{AreAdded, AreKept, StandsWithKnown, is_known, never, since_after, since_at}
 
 -- of the items that a mark is for, some are known from its price on
 pub AreAdded-marked : (reached : ℕ → Bool) (p : ℕ) (before after : List ℕ) → ((m : ℕ) → since_at after m ≡ since_after (reached m) p (since_at before m)) → AreAdded p before after

@@ -8,7 +8,8 @@ use Rattle.std.proofs.lemmas.List.{length-set}
 use Rattle.obs_graph.specs.Positions.{AreBranches}
 use Rattle.obs_graph.specs.Graph.{Graph}
 use Rattle.obs_matroid.specs.Lists.{In, IsDistinct}
-use Rattle.obs_matroid.specs.Matroid.{IsIndependent, IsMatroid}
+use Rattle.obs_matroid.specs.Matroid.{IsIndependent}
+use Rattle.obs_matroid.specs.inner.Matroid.{IsMatroid}
 use Rattle.obs_matroid.specs.Assignments.{Pair, items, branches, IsAssignment}
 use Rattle.obs_matroid.specs.Values.{is_critical}
 use Rattle.obs_matroid.proofs.Computed.{is_critical_is}
@@ -19,10 +20,13 @@ use Rattle.obs_meter.specs.Touches.{is_live, live_items, touch_at}
 use Rattle.obs_meter.proofs.Assigned.{live_items-distinct}
 use Rattle.obs_meter.proofs.Instance.{IsMatroid-graph}
 use Rattle.obs_meter.proofs.Live.{In-live, live-from_live_items, live_low}
-use Rattle.obs_assign.specs.Assignment.{Assignment, has_flag, pairs}
+use Rattle.obs_assign.specs.Assignment.{Assignment}
+use Rattle.obs_assign.specs.inner.Assignment.{has_flag, pairs}
 use Rattle.obs_placement.specs.Answer.{earlier_items, is_chosen}
-use Rattle.obs_placement.specs.Order.{IsOrder, is_earlier, item_at}
-use Rattle.obs_placement.specs.Taking.{AreAdded, AreFirst, AreHeld, AreTaken, IsTakenAt, IsUnderWay, StandsWithKnown, is_below, is_known, is_listed_at, never, scope_of, since_at}
+use Rattle.obs_placement.specs.Order.{is_earlier}
+use Rattle.obs_placement.specs.inner.Order.{IsOrder, item_at}
+use Rattle.obs_placement.specs.Taking.{is_below, is_listed_at, scope_of}
+use Rattle.obs_placement.specs.inner.Taking.{AreAdded, AreFirst, AreHeld, AreTaken, IsTakenAt, IsUnderWay, StandsWithKnown, is_known, never, since_at}
 use Rattle.obs_placement.proofs.Taken.{IsTaken-same}
 
 pub earlier_cheap : (p q a b : ℕ) → (ltb p q || (eqb p q && ltb a b)) ≡ true → p ≤ q

@@ -22,7 +22,8 @@ use Rattle.obs_rankcut.specs.Costs.{price_of}
 use Rattle.obs_exchange.specs.Laws.{noncritical_in}
 use Rattle.obs_placement.specs.declared.plans.Layer.{Layer}
 use Rattle.obs_placement.specs.Answer.{chosen_of, cost_of}
-use Rattle.obs_placement.specs.Layers.{added_items, inside_of, is_price_of, layers_of, layer_items, prices_above}
+use Rattle.obs_placement.specs.Layers.{added_items, inside_of, is_price_of, layers_of, prices_above}
+use Rattle.obs_placement.specs.inner.Layers.{layer_items}
 use Rattle.obs_placement.specs.Placed.{plan_of}
 use Rattle.obs_placement.specs.Taking.{is_below, is_listed_at, scope_of}
 

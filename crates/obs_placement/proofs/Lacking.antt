@@ -12,9 +12,11 @@ use Rattle.obs_meter.specs.Touches.{live_items, touch_at}
 use Rattle.obs_meter.proofs.Live.{live-from_live_items}
 use Rattle.obs_rankcut.specs.Costs.{price_of}
 use Rattle.obs_exchange.specs.Laws.{noncritical_in}
-use Rattle.obs_placement.specs.Layers.{layer_items, layer_outside, layer_rank}
+use Rattle.obs_placement.specs.Layers.{layer_outside, layer_rank}
+use Rattle.obs_placement.specs.inner.Layers.{layer_items}
 use Rattle.obs_placement.specs.Placed.{cheapest, plan_of, shortfall, redundant_items, placement_of}
-use Rattle.obs_placement.specs.Taking.{is_below, is_listed_at, never, scope_of}
+use Rattle.obs_placement.specs.Taking.{is_below, is_listed_at, scope_of}
+use Rattle.obs_placement.specs.inner.Taking.{never}
 
 module _ (n : ℕ) (ends : List (Option Ends)) (touches : List Touch) (price : ℕ → ℕ) (cheap : (m : ℕ) → price m < never) where
   all_below : scope_of ends touches price never ≡ live_items ends touches

@@ -13,10 +13,11 @@ use Rattle.obs_meter.specs.declared.Touch.{Touch}
 use Rattle.obs_rankcut.specs.Costs.{price_of}
 use Rattle.obs_placement.specs.declared.plans.Layer.{Layer}
 use Rattle.obs_placement.specs.Answer.{chosen_of, cost_of, is_chosen}
-use Rattle.obs_placement.specs.Choosing.{AreFirstBelow}
-use Rattle.obs_placement.specs.Layers.{added_items, count_known, inside_of, is_price_of, layer_of, layers_of, prices_above}
-use Rattle.obs_placement.specs.Order.{IsOrder, item_at}
-use Rattle.obs_placement.specs.Taking.{since_at}
+use Rattle.obs_placement.specs.inner.Choosing.{AreFirstBelow}
+use Rattle.obs_placement.specs.Layers.{added_items, inside_of, is_price_of, layer_of, layers_of, prices_above}
+use Rattle.obs_placement.specs.inner.Layers.{count_known}
+use Rattle.obs_placement.specs.inner.Order.{IsOrder, item_at}
+use Rattle.obs_placement.specs.inner.Taking.{since_at}
 use Rattle.obs_placement.proofs.Going.{earlier_cheap}
 
 module _ (prices : List ℕ) where

@@ -8,9 +8,9 @@ use Rattle.std.proofs.lemmas.List.Sums.{sum_by-cons}
 use Rattle.obs_graph.specs.declared.Ends.{Ends}
 use Rattle.obs_graph.specs.Positions.{AreBranches}
 use Rattle.obs_matroid.specs.Lists.{In, IsDistinct}
-use Rattle.obs_matroid.specs.Matroid.{IsMatroid}
-use Rattle.obs_matroid.specs.Assignments.{IsRho}
-use Rattle.obs_matroid.specs.Placement.{IsAnswer, IsApart, IsByPrice, chosen, finished, passed}
+use Rattle.obs_matroid.specs.inner.Matroid.{IsMatroid}
+use Rattle.obs_matroid.specs.inner.Assignments.{IsRho}
+use Rattle.obs_matroid.specs.inner.Placement.{IsAnswer, IsApart, IsByPrice, chosen, finished, passed}
 use Rattle.obs_matroid.proofs.Answer.{answer_completes}
 use Rattle.obs_matroid.proofs.Cheapest.{answer_costs_least}
 use Rattle.obs_matroid.proofs.Critical.{rho_exists, rho_same}
@@ -23,9 +23,10 @@ use Rattle.obs_meter.specs.Touches.{is_live, live_items, touch_at}
 use Rattle.obs_meter.proofs.Assigned.{live_items-distinct, rho-from_matroid, rho-to_matroid}
 use Rattle.obs_meter.proofs.Instance.{IsMatroid-graph}
 use Rattle.obs_meter.proofs.Live.{In-live, live-from_live_items}
-use Rattle.obs_rankcut.specs.Costs.{DoAsMuch, live_candidates, live_meters, price_of}
+use Rattle.obs_rankcut.specs.Costs.{live_candidates, live_meters, price_of}
+use Rattle.obs_rankcut.specs.inner.Costs.{DoAsMuch}
 use Rattle.obs_placement.specs.Answer.{earlier_items, is_chosen}
-use Rattle.obs_placement.specs.Laws.{answer_at}
+use Rattle.obs_placement.specs.inner.Laws.{answer_at}
 use Rattle.obs_placement.specs.Order.{is_earlier}
 use Rattle.obs_placement.proofs.Going.{earlier_cheap, earlier_not_both}
 use Rattle.obs_placement.proofs.Stepped.{earlier-out, raising_by}

@@ -22,13 +22,14 @@ use Rattle.obs_meter.proofs.Assigned.{live_items-distinct}
 use Rattle.obs_meter.proofs.Instance.{IsMatroid-graph}
 use Rattle.obs_meter.proofs.Live.{live_low}
 use Rattle.obs_rankcut.specs.Costs.{price_of}
-use Rattle.obs_assign.specs.Assignment.{Assignment, has_flag, pairs}
+use Rattle.obs_assign.specs.Assignment.{Assignment}
+use Rattle.obs_assign.specs.inner.Assignment.{has_flag, pairs}
 use Rattle.obs_assign.proofs.Keeping.{flags_clear}
 use Rattle.obs_placement.specs.Answer.{chosen_of, cost_of, earlier_items, is_chosen}
-use Rattle.obs_placement.specs.Choosing.{HavePairsOnly}
-use Rattle.obs_placement.specs.Holding.{thawed}
-use Rattle.obs_placement.specs.Limits.{most_price}
-use Rattle.obs_placement.specs.Taking.{AreTaken, IsStanding, StandsWithKnown, is_known, is_raised, never, since_at}
+use Rattle.obs_placement.specs.inner.Choosing.{HavePairsOnly}
+use Rattle.obs_placement.specs.inner.Holding.{thawed}
+use Rattle.obs_placement.specs.inner.Limits.{most_price}
+use Rattle.obs_placement.specs.inner.Taking.{AreTaken, IsStanding, StandsWithKnown, is_known, is_raised, never, since_at}
 use Rattle.obs_placement.proofs.Taken.{IsTaken-rho}
 
 module _ (passes : ℕ → Bool) (prices : List ℕ) where

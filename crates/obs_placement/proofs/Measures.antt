@@ -11,9 +11,11 @@ use Rattle.obs_meter.specs.Spanned.{rank_at}
 use Rattle.obs_meter.specs.Touches.{live_items, touch_at}
 use Rattle.obs_meter.proofs.Live.{live-from_live_items, live_low}
 use Rattle.obs_rankcut.specs.Bounds.{in_scope, listed, listed_rank, unlisted}
-use Rattle.obs_rankcut.specs.Flags.{marked}
-use Rattle.obs_placement.specs.Layers.{layer_items, layer_outside, layer_rank}
-use Rattle.obs_placement.specs.Taking.{AreKnown, is_below, is_listed_at, never, since_at}
+use Rattle.obs_rankcut.specs.inner.Flags.{marked}
+use Rattle.obs_placement.specs.Layers.{layer_outside, layer_rank}
+use Rattle.obs_placement.specs.inner.Layers.{layer_items}
+use Rattle.obs_placement.specs.Taking.{is_below, is_listed_at}
+use Rattle.obs_placement.specs.inner.Taking.{AreKnown, never, since_at}
 
 -- the first i of n flags are those of a test
 pub record AreTested (P : ℕ → Bool) (n i : ℕ) (flags : List Bool) : Type 0 where

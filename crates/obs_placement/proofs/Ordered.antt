@@ -11,7 +11,8 @@ use Rattle.std.proofs.lemmas.List.MinMax.{ranks_by}
 use Rattle.std.proofs.lemmas.List.Sorted.{IsPermutation-sym, length_permutation, Contains-permutation, sorted_far}
 use Rattle.std.proofs.lemmas.Map.Keys.{IsDistinct-IsPermutation, IsDistinct-from_apart, apart_from_distinct}
 use Rattle.obs_rankcut.proofs.Marked.{number_flips}
-use Rattle.obs_placement.specs.Order.{AreNumbered, IsOrder, is_earlier, item_at}
+use Rattle.obs_placement.specs.Order.{is_earlier}
+use Rattle.obs_placement.specs.inner.Order.{AreNumbered, IsOrder, item_at}
 
 abbrev pub Key : Type 0
 Key = ℕ × ℕ

@@ -5,7 +5,7 @@ use Rattle.std.specs.List.{sum_by}
 use Rattle.std.proofs.lemmas.List.Filters.{sum_by-filter_both}
 use Rattle.obs_graph.specs.declared.Ends.{Ends}
 use Rattle.obs_graph.specs.Positions.{AreBranches}
-use Rattle.obs_matroid.specs.Assignments.{IsRho}
+use Rattle.obs_matroid.specs.inner.Assignments.{IsRho}
 use Rattle.obs_matroid.specs.Values.{rho_of}
 use Rattle.obs_matroid.proofs.Computed.{noncritical_tight, rho_of_is}
 use Rattle.obs_matroid.proofs.Critical.{rho_same}

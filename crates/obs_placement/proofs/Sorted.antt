@@ -14,10 +14,11 @@ use Rattle.obs_matroid.proofs.Contained.{Contains-from_In, In-from_Contains, In-
 use Rattle.obs_matroid.proofs.Lists.{In-filter, In-filter_from, clash}
 use Rattle.obs_matroid.proofs.Ranges.{below_from, below_in, range_rising, rising_filter}
 use Rattle.obs_rankcut.proofs.Marked.{number_flips}
-use Rattle.obs_placement.specs.Choosing.{AreFirstBelow}
-use Rattle.obs_placement.specs.Layers.{is_added}
-use Rattle.obs_placement.specs.Order.{IsOrder, is_earlier, item_at}
-use Rattle.obs_placement.specs.Taking.{since_at}
+use Rattle.obs_placement.specs.inner.Choosing.{AreFirstBelow}
+use Rattle.obs_placement.specs.inner.Layers.{is_added}
+use Rattle.obs_placement.specs.Order.{is_earlier}
+use Rattle.obs_placement.specs.inner.Order.{IsOrder, item_at}
+use Rattle.obs_placement.specs.inner.Taking.{since_at}
 use Rattle.obs_placement.proofs.Going.{earlier_cheap}
 
 rising_from : (xs : List ℕ) → ((i j d : ℕ) → i < j → j < length xs → get_or xs i d < get_or xs j d) → IsRising xs

@@ -7,11 +7,13 @@ use Rattle.obs_graph.specs.declared.Ends.{Ends}
 use Rattle.obs_graph.specs.Positions.{AreBranches}
 use Rattle.obs_graph.specs.Graph.{Graph}
 use Rattle.obs_matroid.specs.Lists.{In, IsDistinct}
-use Rattle.obs_matroid.specs.Matroid.{Matroid, IsMatroid}
-use Rattle.obs_matroid.specs.Assignments.{items, branches, part, IsRho}
-use Rattle.obs_matroid.specs.Closed.{IsClosed, none}
+use Rattle.obs_matroid.specs.Matroid.{Matroid}
+use Rattle.obs_matroid.specs.inner.Matroid.{IsMatroid}
+use Rattle.obs_matroid.specs.Assignments.{items, branches}
+use Rattle.obs_matroid.specs.inner.Assignments.{part, IsRho}
+use Rattle.obs_matroid.specs.inner.Closed.{IsClosed, none}
 use Rattle.obs_matroid.specs.Placement.{is_raising}
-use Rattle.obs_matroid.specs.Slots.{pairs_of}
+use Rattle.obs_matroid.specs.inner.Slots.{pairs_of}
 use Rattle.obs_matroid.specs.Values.{rho_of}
 use Rattle.obs_matroid.proofs.Computed.{rho_of_is}
 use Rattle.obs_matroid.proofs.Critical.{rho_same}
@@ -22,16 +24,17 @@ use Rattle.obs_meter.specs.Spanned.{graph_matroid}
 use Rattle.obs_meter.specs.Touches.{is_live, live_items, touch_at}
 use Rattle.obs_meter.proofs.Instance.{IsMatroid-graph}
 use Rattle.obs_meter.proofs.Live.{live-from_live_items}
-use Rattle.obs_assign.specs.Assignment.{Assignment, IsWhole, StandsOver, branch_at, has_flag, is_frozen, pairs}
+use Rattle.obs_assign.specs.Assignment.{Assignment}
+use Rattle.obs_assign.specs.inner.Assignment.{IsWhole, StandsOver, branch_at, has_flag, is_frozen, pairs}
 use Rattle.obs_exchange.specs.declared.Sources.TheVariants.{One}
-use Rattle.obs_exchange.specs.Closed.{IsClosedAt, IsLeastClosedAt}
-use Rattle.obs_exchange.specs.Found.{AddsSource, HasClosed, HasGrown}
+use Rattle.obs_exchange.specs.inner.Closed.{IsClosedAt, IsLeastClosedAt}
+use Rattle.obs_exchange.specs.inner.Found.{AddsSource, HasClosed, HasGrown}
 use Rattle.obs_exchange.proofs.AtGraph.{IsAssignment-live, IsClosed-to_matroid, bare-from_out}
 use Rattle.obs_exchange.proofs.Lawful.{AddsSource-grown}
 use Rattle.obs_placement.specs.Answer.{earlier_items, is_chosen}
 use Rattle.obs_placement.specs.Order.{is_earlier}
-use Rattle.obs_placement.specs.Holding.{IsTouchedByKnown}
-use Rattle.obs_placement.specs.Taking.{AreAdded, AreHeld, IsTaken, IsTakenAt, StandsWithKnown, is_known, never, since_after, since_at}
+use Rattle.obs_placement.specs.inner.Holding.{IsTouchedByKnown}
+use Rattle.obs_placement.specs.inner.Taking.{AreAdded, AreHeld, IsTaken, IsTakenAt, StandsWithKnown, is_known, never, since_after, since_at}
 use Rattle.obs_placement.proofs.Taken.{IsReached, grown_only, joined_rho, known_spanned, IsTaken-grown, IsTaken-joined, IsTaken-passed, IsTaken-rho, IsTaken-same, passed_rho}
 
 not_itself : (p c : ℕ) → (ltb p p || (eqb p p && ltb c c)) ≡ false

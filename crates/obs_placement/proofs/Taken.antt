@@ -2,10 +2,12 @@
 use Rattle.std.proofs.Common.{◌≡◌, ℕ, suc, ◌+◌, ◌≤◌, Bool, true, false, ◌||◌, List, ◌∷◌, length, refl, sym, ap, ◌∙◌, ◌↔◌, inl, inr, arith, subst, eqb, eq-eqb}
 use Rattle.std.proofs.lemmas.Bool.{cases_Bool, eqb-true, cases_eq, or_cases, or_left, or_right}
 use Rattle.obs_matroid.specs.Lists.{In, IsDistinct, other_than, without}
-use Rattle.obs_matroid.specs.Matroid.{Matroid, IsMatroid}
-use Rattle.obs_matroid.specs.Assignments.{Pair, items, branches, part, IsAssignment, IsRho}
-use Rattle.obs_matroid.specs.Closed.{IsClosed, IsLeastClosed, every, none}
-use Rattle.obs_matroid.specs.Critical.{IsCritical}
+use Rattle.obs_matroid.specs.Matroid.{Matroid}
+use Rattle.obs_matroid.specs.inner.Matroid.{IsMatroid}
+use Rattle.obs_matroid.specs.Assignments.{Pair, items, branches, IsAssignment}
+use Rattle.obs_matroid.specs.inner.Assignments.{part, IsRho}
+use Rattle.obs_matroid.specs.inner.Closed.{IsClosed, IsLeastClosed, every, none}
+use Rattle.obs_matroid.specs.inner.Critical.{IsCritical}
 use Rattle.obs_matroid.proofs.Lists.{clash, In_same, cases_In, length-within, other_true, other_self, filter_out, IsDistinct-filter}
 use Rattle.obs_matroid.proofs.Pairs.{In-items, In-items_from, In-part, In-part_from, more_pairs}
 use Rattle.obs_matroid.proofs.Bounds.{length-items}
@@ -13,7 +15,7 @@ use Rattle.obs_matroid.proofs.Critical.{rho_exists, rho_same, marks_critical}
 use Rattle.obs_matroid.proofs.Least.{grows_or_closes}
 use Rattle.obs_matroid.proofs.Placement.{IsAssignment-items, rho_more, still_longest}
 use Rattle.obs_matroid.proofs.Heredity.{critical_with, IsCritical-same}
-use Rattle.obs_placement.specs.Taking.{IsTaken}
+use Rattle.obs_placement.specs.inner.Taking.{IsTaken}
 
 -- a closed set that the search from c alone leaves, as seen by the items c and N, where some are frozen
 pub record IsReached (g : Matroid) (touch : ℕ → List ℕ) (N : List ℕ) (c : ℕ) (frozen : ℕ → Bool) (A : List Pair) (R : ℕ → Bool) : Type 0 where

@@ -5,13 +5,14 @@ use Rattle.obs_graph.specs.Positions.{AreBranches}
 use Rattle.obs_matroid.specs.Lists.{In}
 use Rattle.obs_meter.specs.declared.Touch.{Touch}
 use Rattle.obs_meter.specs.Touches.{is_live, touch_at}
-use Rattle.obs_assign.specs.Assignment.{Assignment, IsWhole, StandsOver, branch_at, has_flag}
+use Rattle.obs_assign.specs.Assignment.{Assignment}
+use Rattle.obs_assign.specs.inner.Assignment.{IsWhole, StandsOver, branch_at, has_flag}
 use Rattle.obs_exchange.specs.declared.Sources.TheVariants.{One}
-use Rattle.obs_exchange.specs.Found.{AreListed, HasClosed, HasGrown}
+use Rattle.obs_exchange.specs.inner.Found.{AreListed, HasClosed, HasGrown}
 use Rattle.obs_placement.specs.declared.offer.Offer.{Offer}
-use Rattle.obs_placement.specs.Holding.{IsTakenNow, IsToTake, IsTouchedByKnown, Known, StandsBeside, Taking}
-use Rattle.obs_placement.specs.Offer.{earlier_in, is_chosen_in, price_in}
-use Rattle.obs_placement.specs.Taking.{AreAdded, AreHeld, AreKept, is_known}
+use Rattle.obs_placement.specs.inner.Holding.{IsTakenNow, IsToTake, IsTouchedByKnown, Known, StandsBeside, Taking}
+use Rattle.obs_placement.specs.inner.Offer.{earlier_in, is_chosen_in, price_in}
+use Rattle.obs_placement.specs.inner.Taking.{AreAdded, AreHeld, AreKept, is_known}
 use Rattle.obs_placement.proofs.Flagged.{AreAdded-marked, AreFrontsOfKnown-more, AreTouchedByKnown-more, StandsWithKnown-more, bounded_after, kept_marked, still_known}
 use Rattle.obs_placement.proofs.Stepped.{bare_source, chosen_by, earlier-live, earlier-out, grown_held, grown_raising, grown_taken, held_slots, joined_added, joined_at, joined_not_raising, passed_at, passed_not_raising, taken_slots}
 

@@ -7,8 +7,10 @@ use Rattle.obs_graph.specs.declared.Ends.{Ends}
 use Rattle.obs_graph.specs.Graph.{Graph}
 use Rattle.obs_graph.specs.Positions.{AreBranches}
 use Rattle.obs_matroid.specs.Lists.{In, IsDistinct}
-use Rattle.obs_matroid.specs.Assignments.{IsAssignment, IsRho, Pair}
-use Rattle.obs_matroid.specs.Placement.{IsAnswer, IsApart, below}
+use Rattle.obs_matroid.specs.Assignments.{IsAssignment, Pair}
+use Rattle.obs_matroid.specs.inner.Assignments.{IsRho}
+use Rattle.obs_matroid.specs.Placement.{below}
+use Rattle.obs_matroid.specs.inner.Placement.{IsAnswer, IsApart}
 use Rattle.obs_matroid.proofs.Answer.{answer_below}
 use Rattle.obs_matroid.proofs.Critical.{rho_same}
 use Rattle.obs_matroid.proofs.Lists.{clash, In_same, In-filter, In-filter_from, IsDistinct-filter, length-split, length-within}
@@ -23,10 +25,13 @@ use Rattle.obs_meter.proofs.Live.{In-live, live-from_live_items, live_low}
 use Rattle.obs_rankcut.specs.Costs.{price_of}
 use Rattle.obs_placement.specs.declared.counting.Tally.{Tally}
 use Rattle.obs_placement.specs.Answer.{is_chosen}
-use Rattle.obs_placement.specs.Counting.{AreCounted, live_below, raised_below}
-use Rattle.obs_placement.specs.Layers.{count_known, layer_items, layer_outside, layer_rank}
-use Rattle.obs_placement.specs.Order.{IsOrder, is_earlier, item_at}
-use Rattle.obs_placement.specs.Taking.{is_below, is_listed_at, scope_of, since_at}
+use Rattle.obs_placement.specs.inner.Counting.{AreCounted, live_below, raised_below}
+use Rattle.obs_placement.specs.Layers.{layer_outside, layer_rank}
+use Rattle.obs_placement.specs.inner.Layers.{count_known, layer_items}
+use Rattle.obs_placement.specs.Order.{is_earlier}
+use Rattle.obs_placement.specs.inner.Order.{IsOrder, item_at}
+use Rattle.obs_placement.specs.Taking.{is_below, is_listed_at, scope_of}
+use Rattle.obs_placement.specs.inner.Taking.{since_at}
 use Rattle.obs_placement.proofs.Costed.{tight_scope}
 use Rattle.obs_placement.proofs.Going.{earlier_cheap, earlier_not_both}
 use Rattle.obs_placement.proofs.Growing.{own_in, own_low, scope_distinct}

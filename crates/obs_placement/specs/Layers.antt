@@ -1,13 +1,13 @@
 -- The layers of a plan and the items that they list.
-use Rattle.std.specs.Prelude.{ℕ, nat_lt, ◌+◌, ◌-◌, ◌==◌, ◌&&◌, not, Bool, Option, List, [], ◌∷◌, ◌++◌, length, filter, slice_index_or}
+use Rattle.std.specs.Prelude.{ℕ, ◌+◌, ◌-◌, ◌==◌, ◌&&◌, not, Bool, Option, List, [], ◌∷◌, ◌++◌, length, filter, slice_index_or}
 use Rattle.std.specs.List.{range_with_len, list_any}
 use Rattle.obs_graph.specs.declared.Ends.{Ends}
 use Rattle.obs_meter.specs.declared.Touch.{Touch}
 use Rattle.obs_meter.specs.Touches.{every_item}
-use Rattle.obs_rankcut.specs.Bounds.{listed, listed_rank, unlisted}
+use Rattle.obs_rankcut.specs.Bounds.{listed_rank, unlisted}
 use Rattle.obs_placement.specs.declared.plans.Layer.{Layer}
 use Rattle.obs_placement.specs.Answer.{cost_of}
-use Rattle.obs_placement.specs.Taking.{is_below, is_listed_at, since_at}
+use Rattle.obs_placement.specs.Taking.{is_below, is_listed_at}
 
 -- whether t is the price of one of the candidates at these positions
 abbrev pub is_price_of : List ℕ → List ℕ → ℕ → Bool
@@ -17,11 +17,7 @@ is_price_of prices ks t = list_any (λ k. slice_index_or prices k 0 == t) ks
 abbrev pub prices_above : List ℕ → List ℕ → ℕ → List ℕ
 prices_above prices ks f = filter (is_price_of prices ks) (range_with_len (f + 1) (cost_of prices ks - f))
 
--- the list of the layer that ends at the price t: of the live items below it those that aren't critical among them; the graph has n vertices
-abbrev pub layer_items : ℕ → List (Option Ends) → List Touch → (ℕ → ℕ) → ℕ → List ℕ
-layer_items n ends touches price t = listed ends touches (is_listed_at n ends touches price t) (is_below price t)
-
--- the rank of the branches that they touch
+-- the rank of the branches that a layer's items touch
 abbrev pub layer_rank : ℕ → List (Option Ends) → List Touch → (ℕ → ℕ) → ℕ → ℕ
 layer_rank n ends touches price t = listed_rank n ends touches (is_listed_at n ends touches price t) (is_below price t)
 
@@ -54,11 +50,3 @@ layers_of n ends touches price f u (t ∷ ts) =
 abbrev pub inside_of : ℕ → List (Option Ends) → List Touch → (ℕ → ℕ) → ℕ → List ℕ → List ℕ
 inside_of n ends touches price f [] = []
 inside_of n ends touches price f (t ∷ ts) = added_items n ends touches price f t ++ inside_of n ends touches price t ts
-
--- whether the price from which on the item m isn't critical is at least f and below t
-abbrev pub is_added : List ℕ → ℕ → ℕ → ℕ → Bool
-is_added since f t m = not (nat_lt (since_at since m) f) && nat_lt (since_at since m) t
-
--- how many items aren't critical from a price below t on
-abbrev pub count_known : List ℕ → ℕ → ℕ
-count_known since t = length (filter (λ m. nat_lt (since_at since m) t) (range_with_len 0 (length since)))

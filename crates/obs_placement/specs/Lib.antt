@@ -1,12 +1,7 @@
-pub mod Limits
 pub mod Order
 pub mod Answer
 pub mod Taking
-pub mod Offer
-pub mod Counting
-pub mod Holding
 pub mod Layers
 pub mod Placed
-pub mod Choosing
-pub mod Laws
 pub mod Shown
+pub mod inner

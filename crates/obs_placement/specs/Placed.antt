@@ -8,8 +8,6 @@ use Rattle.obs_meter.specs.Touches.{live_items, touch_at}
 use Rattle.obs_rankcut.specs.Costs.{price_of}
 use Rattle.obs_exchange.specs.Laws.{noncritical_in}
 use Rattle.obs_placement.specs.declared.plans.Layer.{Layer}
-use Rattle.obs_placement.specs.declared.plans.Placement.{Placement}
-use Rattle.obs_placement.specs.declared.plans.Placement.TheVariants.{Cheapest, Shortfall}
 use Rattle.obs_placement.specs.Answer.{chosen_of, cost_of}
 use Rattle.obs_placement.specs.Layers.{inside_of, layers_of, prices_above}
 
@@ -31,11 +29,6 @@ pub record ShortfallValue : Type 0 where
 pub data Placed : Type 0 where
   cheapest : PlanValue → Placed
   shortfall : ShortfallValue → Placed
-
--- what a placement says
-abbrev pub placed_of : Placement → Placed
-placed_of (Cheapest p) = cheapest (record { chosen = p.chosen.now; cost = p.cost; layers = p.layers.now; inside = p.inside.now })
-placed_of (Shortfall b) = shortfall (record { inside = b.inside.now; rank = b.rank; outside = b.outside; needed = b.needed })
 
 -- the plan; the graph has n vertices
 abbrev pub plan_of : ℕ → List (Option Ends) → List Touch → ℕ → List ℕ → PlanValue

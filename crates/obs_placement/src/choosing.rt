@@ -1,11 +1,11 @@
 // The answer: which candidates are chosen, and what they cost.
 ghost use Rattle.std.specs.Prelude.{◌≡◌, ◌<◌, ◌≤◌, IfOk, filter, length, slice_index_or, take};
 ghost use Rattle.std.specs.List.{range_with_len};
-ghost use Rattle.obs_assign.specs.Assignment.{has_flag};
+ghost use Rattle.obs_assign.specs.inner.Assignment.{has_flag};
 ghost use Rattle.obs_placement.specs.Answer.{cost_of};
-ghost use Rattle.obs_placement.specs.Choosing.{IsChosen, new_choosing};
-ghost use Rattle.obs_placement.specs.Offer.{HasRoomForOffer, IsOffer};
-ghost use Rattle.obs_placement.specs.Taking.{is_raised};
+ghost use Rattle.obs_placement.specs.inner.Choosing.{IsChosen, new_choosing};
+ghost use Rattle.obs_placement.specs.inner.Offer.{HasRoomForOffer, IsOffer};
+ghost use Rattle.obs_placement.specs.inner.Taking.{is_raised};
 
 use crate::known::clear;
 use crate::memory::NoMemory;
@@ -102,7 +102,7 @@ pub struct Choosing {
 
 impl Model for Choosing {
     ghost use Rattle.std.specs.Prelude.{◌≡◌, ◌≤◌, length, take};
-    ghost use Rattle.obs_placement.specs.Choosing.{Choosing};
+    ghost use Rattle.obs_placement.specs.inner.Choosing.{Choosing};
 
     ghost Value = { Choosing };
 

@@ -1,10 +1,10 @@
 // How many live items are below a price, and how many of these raise the greatest length, counted in the order of the
 // items.
 ghost use Rattle.std.specs.Prelude.{◌≡◌, ◌+◌, ◌<◌, ◌≤◌, if◌then◌else◌, length};
-ghost use Rattle.obs_placement.specs.Choosing.{IsChosen};
-ghost use Rattle.obs_placement.specs.Counting.{AreCounted};
-ghost use Rattle.obs_placement.specs.Offer.{IsOffer, price_in};
-ghost use Rattle.obs_placement.specs.Order.{item_at};
+ghost use Rattle.obs_placement.specs.inner.Choosing.{IsChosen};
+ghost use Rattle.obs_placement.specs.inner.Counting.{AreCounted};
+ghost use Rattle.obs_placement.specs.inner.Offer.{IsOffer, price_in};
+ghost use Rattle.obs_placement.specs.inner.Order.{item_at};
 
 use crate::choosing::Choosing;
 use crate::offer::Offer;

@@ -3,10 +3,10 @@
 ghost use Rattle.std.specs.Prelude.{◌≡◌, ◌⊎◌, ◌<◌, ℕ, All, IsTrue, false, length, slice_set, true};
 ghost use Rattle.obs_matroid.specs.Lists.{In};
 ghost use Rattle.obs_meter.specs.Touches.{touch_at};
-ghost use Rattle.obs_assign.specs.Assignment.{HasRoomOf, IsWhole, StandsOver, is_frozen};
-ghost use Rattle.obs_placement.specs.Holding.{AreFlagged, IsTouchedByKnown, StandsBeside};
-ghost use Rattle.obs_placement.specs.Offer.{IsOffer};
-ghost use Rattle.obs_placement.specs.Taking.{AreKept, is_known, never, since_at};
+ghost use Rattle.obs_assign.specs.inner.Assignment.{HasRoomOf, IsWhole, StandsOver, is_frozen};
+ghost use Rattle.obs_placement.specs.inner.Holding.{AreFlagged, IsTouchedByKnown, StandsBeside};
+ghost use Rattle.obs_placement.specs.inner.Offer.{IsOffer};
+ghost use Rattle.obs_placement.specs.inner.Taking.{AreKept, is_known, never, since_at};
 
 use crate::known::{Known, NEVER};
 use crate::offer::Offer;

@@ -1,8 +1,8 @@
 // What is known of items while they are taken.
 ghost use Rattle.std.specs.Prelude.{◌≡◌, ◌<◌, ◌≤◌, [], false, true, length, replicate, slice_set, take, IfOk};
-ghost use Rattle.obs_placement.specs.Holding.{nothing_known};
-ghost use Rattle.obs_placement.specs.Offer.{HasRoomForOffer};
-ghost use Rattle.obs_placement.specs.Taking.{never};
+ghost use Rattle.obs_placement.specs.inner.Holding.{nothing_known};
+ghost use Rattle.obs_placement.specs.inner.Offer.{HasRoomForOffer};
+ghost use Rattle.obs_placement.specs.inner.Taking.{never};
 
 use crate::memory::NoMemory;
 use crate::offer::Offer;
@@ -28,7 +28,7 @@ pub struct Known {
 
 impl Model for Known {
     ghost use Rattle.std.specs.Prelude.{◌≤◌, length, take};
-    ghost use Rattle.obs_placement.specs.Holding.{Known};
+    ghost use Rattle.obs_placement.specs.inner.Holding.{Known};
 
     ghost Value = { Known };
 

@@ -1,6 +1,6 @@
 // The laws of placement.
-ghost use Rattle.obs_placement.specs.Laws.{ChosenDoAsMuch, CostIsLeast, CostIsOfAnswer, CostsWhatLayersShow, NoneIsCheaper, PositionsAreOfAnswer};
-ghost use Rattle.obs_placement.specs.Shown.{BoundIsReached, BoundRefutes, CompletingCostsWhatLayersShow, LayersAreShown, LayersShowTheCost, ListsComeFirst, ListsGrow, NoneCompletesForLess};
+ghost use Rattle.obs_placement.specs.inner.Laws.{ChosenDoAsMuch, CostIsLeast, CostIsOfAnswer, CostsWhatLayersShow, NoneIsCheaper, PositionsAreOfAnswer};
+ghost use Rattle.obs_placement.specs.inner.Shown.{BoundIsReached, BoundRefutes, CompletingCostsWhatLayersShow, LayersAreShown, LayersShowTheCost, ListsComeFirst, ListsGrow, NoneCompletesForLess};
 
 /// The chosen candidates do as much, with the meters, as all that is offered, and no live candidates that do cost less.
 pub fn chosen_are_cheapest()

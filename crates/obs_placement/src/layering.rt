@@ -1,12 +1,13 @@
 // The layers of a plan, read off the prices from which on items aren't critical.
 ghost use Rattle.std.specs.Prelude.{◌≡◌, ◌<◌, ◌≤◌, ◌++◌, ◌∷◌, [], length};
-ghost use Rattle.obs_placement.specs.Choosing.{AreFirstBelow, IsChosen};
-ghost use Rattle.obs_placement.specs.Counting.{live_below, raised_below};
-ghost use Rattle.obs_placement.specs.Layers.{added_items, count_known, layer_of};
-ghost use Rattle.obs_placement.specs.Offer.{AreAllKnown, IsOffer, price_in};
-ghost use Rattle.obs_placement.specs.Order.{IsOrder};
+ghost use Rattle.obs_placement.specs.inner.Choosing.{AreFirstBelow, IsChosen};
+ghost use Rattle.obs_placement.specs.inner.Counting.{live_below, raised_below};
+ghost use Rattle.obs_placement.specs.Layers.{added_items, layer_of};
+ghost use Rattle.obs_placement.specs.inner.Layers.{count_known};
+ghost use Rattle.obs_placement.specs.inner.Offer.{AreAllKnown, IsOffer, price_in};
+ghost use Rattle.obs_placement.specs.inner.Order.{IsOrder};
 ghost use Rattle.obs_placement.specs.Placed.{plan_of};
-ghost use Rattle.obs_placement.specs.Taking.{since_at};
+ghost use Rattle.obs_placement.specs.inner.Taking.{since_at};
 
 use crate::choosing::Choosing;
 use crate::counting::{Tally, count_item, nothing_counted};

@@ -1,10 +1,10 @@
 // The layers of a plan, as they are laid out.
 ghost use Rattle.std.specs.Prelude.{◌≡◌, ℕ, ◌<◌, ◌≤◌, ◌^◌, ◌++◌, ◌∷◌, [], List, filter, length, slice_index, slice_index_or, take, IfOk};
 ghost use Rattle.std.specs.List.{range_with_len};
-ghost use Rattle.obs_placement.specs.Choosing.{AreFirstBelow, Laying};
-ghost use Rattle.obs_placement.specs.Layers.{is_added};
-ghost use Rattle.obs_placement.specs.Order.{IsOrder, item_at};
-ghost use Rattle.obs_placement.specs.Taking.{since_at};
+ghost use Rattle.obs_placement.specs.inner.Choosing.{AreFirstBelow, Laying};
+ghost use Rattle.obs_placement.specs.inner.Layers.{is_added};
+ghost use Rattle.obs_placement.specs.inner.Order.{IsOrder, item_at};
+ghost use Rattle.obs_placement.specs.inner.Taking.{since_at};
 
 use crate::memory::NoMemory;
 use crate::order::put_known_in_order;
@@ -72,7 +72,7 @@ pub struct Laying {
 
 impl Model for Laying {
     ghost use Rattle.std.specs.Prelude.{◌≡◌, ◌≤◌, length, take};
-    ghost use Rattle.obs_placement.specs.Choosing.{Laying};
+    ghost use Rattle.obs_placement.specs.inner.Choosing.{Laying};
 
     ghost Value = { Laying };
 

@@ -1,9 +1,10 @@
 // The items of a price: those below it that aren't critical among them, and their bound.
 ghost use Rattle.std.specs.Prelude.{◌≡◌, ◌<◌, ℕ, [], length, nat_lt, IfOk};
-ghost use Rattle.obs_rankcut.specs.Flags.{marked};
-ghost use Rattle.obs_placement.specs.Offer.{AreAllKnown, HasRoomForOffer, IsOffer, price_in};
-ghost use Rattle.obs_placement.specs.Choosing.{HasMeasured};
-ghost use Rattle.obs_placement.specs.Taking.{is_below, since_at};
+ghost use Rattle.obs_rankcut.specs.inner.Flags.{marked};
+ghost use Rattle.obs_placement.specs.inner.Offer.{AreAllKnown, HasRoomForOffer, IsOffer, price_in};
+ghost use Rattle.obs_placement.specs.inner.Choosing.{HasMeasured};
+ghost use Rattle.obs_placement.specs.Taking.{is_below};
+ghost use Rattle.obs_placement.specs.inner.Taking.{since_at};
 
 use crate::memory::NoMemory;
 use crate::offer::Offer;
@@ -72,7 +73,7 @@ pub struct Measuring {
 
 impl Model for Measuring {
     ghost use Rattle.std.specs.Prelude.{◌≡◌, length};
-    ghost use Rattle.obs_rankcut.specs.Bounds.{CutWork};
+    ghost use Rattle.obs_rankcut.specs.inner.Bounds.{CutWork};
 
     ghost Value = { CutWork };
 

@@ -1,8 +1,8 @@
 // The order in which the items are taken, and that in which the layers list them.
 ghost use Rattle.std.specs.Prelude.{◌≡◌, ◌<◌, ◌≤◌, ◌^◌, length, take};
-ghost use Rattle.obs_placement.specs.Offer.{IsOffer, price_in};
-ghost use Rattle.obs_placement.specs.Order.{AreNumbered, IsOrder};
-ghost use Rattle.obs_placement.specs.Taking.{since_at};
+ghost use Rattle.obs_placement.specs.inner.Offer.{IsOffer, price_in};
+ghost use Rattle.obs_placement.specs.inner.Order.{AreNumbered, IsOrder};
+ghost use Rattle.obs_placement.specs.inner.Taking.{since_at};
 
 use crate::offer::Offer;
 

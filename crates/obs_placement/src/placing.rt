@@ -1,7 +1,7 @@
 // A placement, worked out.
 ghost use Rattle.std.specs.Prelude.{◌≡◌, ◌≤◌, length};
-ghost use Rattle.obs_placement.specs.Choosing.{IsChosen, placed_in};
-ghost use Rattle.obs_placement.specs.Offer.{HasRoomForOffer, IsOffer};
+ghost use Rattle.obs_placement.specs.inner.Choosing.{IsChosen, placed_in};
+ghost use Rattle.obs_placement.specs.inner.Offer.{HasRoomForOffer, IsOffer};
 ghost use Rattle.obs_placement.specs.Placed.{placement_of};
 
 use crate::choosing::Choosing;

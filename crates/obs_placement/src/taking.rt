@@ -1,11 +1,11 @@
 // Items are taken one after the other: each that raises the greatest length gets a pair, and of each other one it is
 // kept which items aren't critical from its price on.
 ghost use Rattle.std.specs.Prelude.{◌≡◌, [], IfOk, length};
-ghost use Rattle.obs_assign.specs.Assignment.{pairs as pairs_at};
-ghost use Rattle.obs_placement.specs.Choosing.{nothing_taken};
-ghost use Rattle.obs_placement.specs.Holding.{GoesOn, HasEnded, IsTakenNow, IsToTake, StandsBeside, nothing_known, thawed};
-ghost use Rattle.obs_placement.specs.Offer.{HasRoomForOffer, IsOffer, price_in};
-ghost use Rattle.obs_placement.specs.Order.{IsOrder};
+ghost use Rattle.obs_assign.specs.inner.Assignment.{pairs as pairs_at};
+ghost use Rattle.obs_placement.specs.inner.Choosing.{nothing_taken};
+ghost use Rattle.obs_placement.specs.inner.Holding.{GoesOn, HasEnded, IsTakenNow, IsToTake, StandsBeside, nothing_known, thawed};
+ghost use Rattle.obs_placement.specs.inner.Offer.{HasRoomForOffer, IsOffer, price_in};
+ghost use Rattle.obs_placement.specs.inner.Order.{IsOrder};
 
 use crate::holding::{keep, touches_known};
 use crate::known::Known;
@@ -28,7 +28,7 @@ pub struct Taking {
 
 impl Model for Taking {
     ghost use Rattle.std.specs.Prelude.{◌≡◌};
-    ghost use Rattle.obs_placement.specs.Holding.{Taking};
+    ghost use Rattle.obs_placement.specs.inner.Holding.{Taking};
 
     ghost Value = { Taking };
 

@@ -1,15 +1,17 @@
 // What a placement is worked out in.
 ghost use Rattle.std.specs.Prelude.{◌≡◌, ◌+◌, ◌≤◌, All, IfOk, length};
 ghost use Rattle.obs_meter.specs.Assignments.{rho_at};
-ghost use Rattle.obs_meter.specs.Sizes.{HasRoomFor};
-ghost use Rattle.obs_meter.specs.Touches.{AreInRange, live_items};
+ghost use Rattle.obs_meter.specs.inner.Sizes.{HasRoomFor};
+ghost use Rattle.obs_meter.specs.Touches.{live_items};
+ghost use Rattle.obs_meter.specs.inner.Touches.{AreInRange};
 ghost use Rattle.obs_rankcut.specs.Costs.{price_of};
-ghost use Rattle.obs_assign.specs.Assignment.{pairs as pairs_at};
-ghost use Rattle.obs_placement.specs.Limits.{most_candidates, most_price};
+ghost use Rattle.obs_assign.specs.inner.Assignment.{pairs as pairs_at};
+ghost use Rattle.obs_placement.specs.inner.Limits.{most_candidates, most_price};
 ghost use Rattle.obs_placement.specs.Answer.{chosen_of};
-ghost use Rattle.obs_placement.specs.Choosing.{HavePairsOnly, new_placing};
-ghost use Rattle.obs_placement.specs.Placed.{placed_of, placement_of};
-ghost use Rattle.obs_placement.specs.Taking.{AreKnown, IsStanding};
+ghost use Rattle.obs_placement.specs.inner.Choosing.{HavePairsOnly, new_placing};
+ghost use Rattle.obs_placement.specs.Placed.{placement_of};
+ghost use Rattle.obs_placement.specs.inner.Placed.{placed_of};
+ghost use Rattle.obs_placement.specs.inner.Taking.{AreKnown, IsStanding};
 
 use crate::choosing::Choosing;
 use crate::laying::Laying;
@@ -47,7 +49,7 @@ pub struct PlaceWork {
 
 impl Model for PlaceWork {
     ghost use Rattle.std.specs.Prelude.{◌≡◌};
-    ghost use Rattle.obs_placement.specs.Choosing.{PlaceWork, placed_in};
+    ghost use Rattle.obs_placement.specs.inner.Choosing.{PlaceWork, placed_in};
 
     ghost Value = { PlaceWork };
 

@@ -11,8 +11,8 @@ use Rattle.obs_matroid.proofs.Contained.{All-from_In, In-from_All}
 use Rattle.obs_matroid.proofs.Lists.{In-append_left, In-append_right, In-append_cases}
 use Rattle.obs_meter.specs.declared.Touch.TheVariants.{Star}
 use Rattle.obs_meter.proofs.Touched.{In-take, In-take_more, touched-below}
-use Rattle.obs_rankcut.specs.Flags.{marked}
-use Rattle.obs_rankcut.specs.Marks.{AreFrontsMarked, AreMarkedToo}
+use Rattle.obs_rankcut.specs.inner.Flags.{marked}
+use Rattle.obs_rankcut.specs.inner.Marks.{AreFrontsMarked, AreMarkedToo}
 
 pub AreMarkedToo-none : (flags : List Bool) → AreMarkedToo flags [] flags
 AreMarkedToo-none flags = record { added = λ e i. absurd i; kept = λ e t. t; only = λ e t. inl t }

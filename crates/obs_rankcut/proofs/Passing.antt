@@ -11,8 +11,8 @@ use Rattle.obs_matroid.proofs.Ranges.{later, later_next, listed_more}
 use Rattle.obs_meter.specs.declared.Touch.{Touch}
 use Rattle.obs_meter.specs.Touches.{is_live, touch_at}
 use Rattle.obs_rankcut.specs.Bounds.{listed, unlisted}
-use Rattle.obs_rankcut.specs.Flags.{marked}
-use Rattle.obs_rankcut.specs.Marks.{AreFrontsMarked, AreMarkedToo, MarksJust}
+use Rattle.obs_rankcut.specs.inner.Flags.{marked}
+use Rattle.obs_rankcut.specs.inner.Marks.{AreFrontsMarked, AreMarkedToo, MarksJust}
 
 -- what is neither marked nor unmarked isn't live
 pub idle : (live mark : Bool) → (live && mark) ≡ false → (live && not mark) ≡ false → live ≡ false

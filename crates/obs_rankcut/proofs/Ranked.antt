@@ -4,14 +4,15 @@ use Rattle.std.specs.List.{Contains, cons_option}
 use Rattle.std.proofs.lemmas.Bool.{cases_Bool}
 use Rattle.obs_graph.specs.declared.Ends.{Ends}
 use Rattle.obs_graph.specs.Joined.{rank}
-use Rattle.obs_graph.specs.Positions.{ends_of, marked_ends}
+use Rattle.obs_graph.specs.Positions.{ends_of}
+use Rattle.obs_graph.specs.inner.Positions.{marked_ends}
 use Rattle.obs_graph.proofs.AtPositions.{contains-ends_of, ends_of-contains, contains_cons}
 use Rattle.obs_graph.proofs.Chains.{Contains-here, Contains-cases}
 use Rattle.obs_graph.proofs.Forests.{rank-among}
 use Rattle.obs_matroid.proofs.Contained.{Contains-from_In, In-from_Contains}
 use Rattle.obs_meter.specs.Spanned.{rank_at}
-use Rattle.obs_rankcut.specs.Flags.{marked}
-use Rattle.obs_rankcut.specs.Marks.{MarksJust}
+use Rattle.obs_rankcut.specs.inner.Flags.{marked}
+use Rattle.obs_rankcut.specs.inner.Marks.{MarksJust}
 
 pub cons_here : (o : Option Ends) (es : List Ends) (e : Ends) → o ≡ Some e → Contains (cons_option o es) e
 cons_here None es e is = absurd (cc is)

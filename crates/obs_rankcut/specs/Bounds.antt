@@ -1,13 +1,9 @@
 -- The bound of a list of meters over a scope, and what it is made of. Marks and scopes are tests.
-use Rattle.std.specs.Prelude.{◌≡◌, ℕ, ◌≤◌, Bool, not, Option, List, filter, flat_map, length, take}
+use Rattle.std.specs.Prelude.{ℕ, Bool, not, Option, List, filter, flat_map}
 use Rattle.obs_graph.specs.declared.Ends.{Ends}
-use Rattle.obs_graph.specs.Graph.{Graph, Room}
 use Rattle.obs_meter.specs.declared.Touch.{Touch}
-use Rattle.obs_meter.specs.Sizes.{Sizes}
 use Rattle.obs_meter.specs.Spanned.{rank_at}
-use Rattle.obs_meter.specs.Touches.{AreInRange, live_items, touch_at}
-use Rattle.obs_rankcut.specs.declared.listing.Choice.{Choice}
-use Rattle.obs_rankcut.specs.Flags.{marked}
+use Rattle.obs_meter.specs.Touches.{live_items, touch_at}
 
 -- the live meters of the scope
 abbrev pub in_scope : List (Option Ends) → List Touch → (ℕ → Bool) → List ℕ
@@ -23,28 +19,3 @@ unlisted ends touches marks scope = filter (λ m. not (marks m)) (in_scope ends 
 -- the rank of the branches that the listed ones touch; the graph has n vertices
 abbrev pub listed_rank : ℕ → List (Option Ends) → List Touch → (ℕ → Bool) → (ℕ → Bool) → ℕ
 listed_rank n ends touches marks scope = rank_at n ends (flat_map (touch_at ends touches) (listed ends touches marks scope))
-
--- the meters are in range of the graph, each has its mark and its flag of the scope, and there is room to list all
-pub record CanList (g : Graph) (touches : List Touch) (choice : Choice) (places : List ℕ) : Type 0 where
-  pub in_range : AreInRange g touches
-  pub marks : length choice.marks.now ≡ length touches
-  pub scope : length choice.scope.now ≡ length touches
-  pub list : length touches ≤ length places
-
--- there is room for the branches and the vertices of the graph, among flags, among counts and where a rank is found
-pub record HasRoomToRank (g : Graph) (fs : List Bool) (ns : List ℕ) (room : Room) : Type 0 where
-  pub flags : length g.ends ≤ length fs
-  pub fronts : g.vertices ≤ length ns
-  pub branches : length g.ends ≤ room.most_branches
-  pub vertices : g.vertices ≤ room.most_vertices
-
--- so many meters stand in the list, which are those to be listed, and so many others were counted
-pub record IsCounted (ends : List (Option Ends)) (touches : List Touch) (choice : Choice) (places : List ℕ) (count others : ℕ) : Type 0 where
-  pub bound : count ≤ length touches
-  pub inside : take count places ≡ listed ends touches (marked choice.marks.now) (marked choice.scope.now)
-  pub outside : others ≡ length (unlisted ends touches (marked choice.marks.now) (marked choice.scope.now))
-
--- what a work value is seen as: the list that was measured last, and the sizes that it was made for
-pub record CutWork : Type 0 where
-  pub inside : List ℕ
-  pub sizes : Sizes

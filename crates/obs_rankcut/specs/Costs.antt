@@ -16,12 +16,6 @@ live_meters ends touches meters = filter (λ m. nat_lt m meters) (live_items end
 abbrev pub live_candidates : List (Option Ends) → List Touch → ℕ → List ℕ
 live_candidates ends touches meters = filter (λ m. not (nat_lt m meters)) (live_items ends touches)
 
--- the items of X are live candidates, and with the live meters their greatest length is r. Where r is that of all live items, they do
--- as much as all; an idle candidate touches nothing and would only cost
-pub record DoAsMuch (ends : List (Option Ends)) (touches : List Touch) (meters r : ℕ) (X : List ℕ) : Type 0 where
-  pub candidates : (c : ℕ) → In c X → In c (live_candidates ends touches meters)
-  pub longest : IsRhoAt ends touches (live_meters ends touches meters ++ X) r
-
 -- the items of X are candidates, and the needed number is the greatest length of the live meters and the live ones of X
 pub record Completes (ends : List (Option Ends)) (touches : List Touch) (meters needed : ℕ) (X : List ℕ) : Type 0 where
   pub candidates : (c : ℕ) → In c X → meters ≤ c

@@ -1,4 +1,3 @@
 pub mod Bounds
 pub mod Costs
-pub mod Flags
-pub mod Marks
+pub mod inner

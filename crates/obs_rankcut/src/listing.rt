@@ -2,11 +2,13 @@
 // counted.
 ghost use Rattle.std.specs.Prelude.{◌≡◌, ◌<◌, ◌≤◌, ◌&&◌, All, false, flat_map, length, not, replicate, slice_index_or, take};
 ghost use Rattle.obs_meter.specs.declared.Touch.TheVariants.{Nothing};
-ghost use Rattle.obs_meter.specs.Touches.{IsInRange, touch_at};
+ghost use Rattle.obs_meter.specs.Touches.{touch_at};
+ghost use Rattle.obs_meter.specs.inner.Touches.{IsInRange};
 ghost use Rattle.obs_graph.specs.Positions.{branches_at};
-ghost use Rattle.obs_rankcut.specs.Bounds.{CanList, HasRoomToRank, IsCounted, listed, listed_rank};
-ghost use Rattle.obs_rankcut.specs.Flags.{marked};
-ghost use Rattle.obs_rankcut.specs.Marks.{AreFrontsMarked, AreMarkedToo, MarksJust};
+ghost use Rattle.obs_rankcut.specs.Bounds.{listed, listed_rank};
+ghost use Rattle.obs_rankcut.specs.inner.Bounds.{CanList, HasRoomToRank, IsCounted};
+ghost use Rattle.obs_rankcut.specs.inner.Flags.{marked};
+ghost use Rattle.obs_rankcut.specs.inner.Marks.{AreFrontsMarked, AreMarkedToo, MarksJust};
 
 use obs_graph::{Graph, GraphWork};
 use obs_meter::{Hub, Meters};

@@ -1,10 +1,10 @@
 // The bound of marked meters over a scope.
 ghost use Rattle.std.specs.Prelude.{◌≡◌, ◌+◌, length};
-ghost use Rattle.obs_meter.specs.Assignments.{bound_at};
-ghost use Rattle.obs_meter.specs.Sizes.{HasRoomFor};
-ghost use Rattle.obs_meter.specs.Touches.{AreInRange};
+ghost use Rattle.obs_meter.specs.inner.Assignments.{bound_at};
+ghost use Rattle.obs_meter.specs.inner.Sizes.{HasRoomFor};
+ghost use Rattle.obs_meter.specs.inner.Touches.{AreInRange};
 ghost use Rattle.obs_rankcut.specs.Bounds.{in_scope, listed, listed_rank, unlisted};
-ghost use Rattle.obs_rankcut.specs.Flags.{marked};
+ghost use Rattle.obs_rankcut.specs.inner.Flags.{marked};
 
 use crate::bounds::Bound;
 use crate::work::{CutWork, measure};

@@ -1,10 +1,10 @@
 // What bounds are measured in.
 ghost use Rattle.std.specs.Prelude.{◌≡◌, ◌+◌, [], length, IfOk};
-ghost use Rattle.obs_meter.specs.Assignments.{bound_at};
-ghost use Rattle.obs_meter.specs.Sizes.{HasRoomFor};
-ghost use Rattle.obs_meter.specs.Touches.{AreInRange};
+ghost use Rattle.obs_meter.specs.inner.Assignments.{bound_at};
+ghost use Rattle.obs_meter.specs.inner.Sizes.{HasRoomFor};
+ghost use Rattle.obs_meter.specs.inner.Touches.{AreInRange};
 ghost use Rattle.obs_rankcut.specs.Bounds.{in_scope, listed, listed_rank, unlisted};
-ghost use Rattle.obs_rankcut.specs.Flags.{marked};
+ghost use Rattle.obs_rankcut.specs.inner.Flags.{marked};
 
 use crate::listing::{Choice, count_in};
 use crate::memory::NoMemory;
@@ -29,7 +29,7 @@ pub struct CutWork {
 
 impl Model for CutWork {
     ghost use Rattle.std.specs.Prelude.{◌≡◌, ◌≤◌, length, take};
-    ghost use Rattle.obs_rankcut.specs.Bounds.{CutWork};
+    ghost use Rattle.obs_rankcut.specs.inner.Bounds.{CutWork};
 
     ghost Value = { CutWork };
 

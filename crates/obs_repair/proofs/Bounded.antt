@@ -7,7 +7,8 @@ use Rattle.std.proofs.lemmas.List.FromFn.{length-range_with_len}
 use Rattle.std.proofs.lemmas.List.Sums.{count_by-le-length, length-filter}
 use Rattle.obs_graph.specs.Graph.{Graph}
 use Rattle.obs_case.specs.Tables.{IsValid, Tables}
-use Rattle.obs_matroid.specs.Assignments.{Pair, items, part}
+use Rattle.obs_matroid.specs.Assignments.{Pair, items}
+use Rattle.obs_matroid.specs.inner.Assignments.{part}
 use Rattle.obs_matroid.specs.Lists.{In}
 use Rattle.obs_matroid.proofs.Bounds.{length-items}
 use Rattle.obs_matroid.proofs.Exchange.{items-part}
@@ -18,20 +19,21 @@ use Rattle.obs_meter.specs.Touches.{every_item, is_live}
 use Rattle.obs_meter.proofs.Assigned.{live_items-distinct}
 use Rattle.obs_meter.proofs.Touched.{live-from_In}
 use Rattle.obs_meter.proofs.Live.{In-live}
-use Rattle.obs_assign.specs.Assignment.{Assignment, branch_at, has_flag, pairs}
+use Rattle.obs_assign.specs.Assignment.{Assignment}
+use Rattle.obs_assign.specs.inner.Assignment.{branch_at, has_flag, pairs}
 use Rattle.obs_assign.proofs.Slotted.{item_slot, slot_item}
 use Rattle.obs_exchange.specs.declared.Sources.TheVariants.{All as AllSources}
 use Rattle.obs_exchange.specs.Critical.{critical_meters}
-use Rattle.obs_exchange.specs.Found.{HasClosed}
+use Rattle.obs_exchange.specs.inner.Found.{HasClosed}
 use Rattle.obs_exchange.proofs.AtGraph.{IsAssignment-live, IsLeastClosed-thawed}
-use Rattle.obs_network.specs.Located.{live_meters_of}
+use Rattle.obs_network.specs.inner.Located.{live_meters_of}
 use Rattle.obs_network.specs.Network.{case_branches, case_meters, case_vertex_count, network_of}
 use Rattle.obs_network.specs.Observable.{case_live_meters}
 use Rattle.obs_network.proofs.Observed.{pairs_in}
 use Rattle.obs_network.proofs.OfCase.{length-case_meters}
 use Rattle.obs_repair.specs.Bounds.{bound_meters, bound_outside, bound_rank, case_critical_meters, component_meters, component_rank, is_critical_meter, is_meter_of}
-use Rattle.obs_repair.specs.Kept.{AreLongest}
-use Rattle.obs_repair.specs.Bounds.{AreMarks}
+use Rattle.obs_repair.specs.inner.Kept.{AreLongest}
+use Rattle.obs_repair.specs.inner.Bounds.{AreMarks}
 use Rattle.obs_repair.proofs.Enough.{in_component, least, live_pairs}
 use Rattle.obs_repair.proofs.Tight.{IsClosedFor, bound_is, mark_from, pairs_in_from}
 

@@ -19,10 +19,10 @@ use Rattle.obs_meter.specs.declared.Touch.{Touch}
 use Rattle.obs_meter.specs.Assignments.{IsAssignmentAt}
 use Rattle.obs_meter.specs.Spanned.{both_ends, ends_at}
 use Rattle.obs_meter.specs.Touches.{every_item, touch_at}
-use Rattle.obs_exchange.specs.Longest.{IsMost}
+use Rattle.obs_exchange.specs.inner.Longest.{IsMost}
 use Rattle.obs_network.specs.Network.{Network}
 use Rattle.obs_network.proofs.KeptForests.{InRange-ends_of}
-use Rattle.obs_repair.specs.Parts.{AreBounding, BoundsNetwork, is_between}
+use Rattle.obs_repair.specs.inner.Parts.{AreBounding, BoundsNetwork, is_between}
 use Rattle.obs_repair.proofs.Retained.{assigns-within}
 
 -- they bound by more

@@ -11,7 +11,8 @@ use Rattle.obs_case.specs.Flags.{with_meter_inservice}
 use Rattle.obs_case.specs.Tables.{IsValid, Tables}
 use Rattle.obs_matroid.specs.Lists.{In, IsDistinct, other_than, without}
 use Rattle.obs_matroid.specs.Matroid.{Matroid}
-use Rattle.obs_matroid.specs.Assignments.{IsAssignment, Pair, items, part}
+use Rattle.obs_matroid.specs.Assignments.{IsAssignment, Pair, items}
+use Rattle.obs_matroid.specs.inner.Assignments.{part}
 use Rattle.obs_matroid.proofs.Lists.{In-filter, IsDistinct-filter, clash, filter_all, In-filter_from, other_ne, other_true}
 use Rattle.obs_matroid.proofs.Pairs.{In-items_from, IsDistinct-part}
 use Rattle.obs_matroid.proofs.Placement.{IsAssignment-items, one_more}
@@ -24,19 +25,20 @@ use Rattle.obs_meter.proofs.Assigned.{every-to_live, every_item-distinct, from_m
 use Rattle.obs_meter.proofs.Instance.{IsMatroid-graph}
 use Rattle.obs_meter.proofs.Touched.{live-from_In}
 use Rattle.obs_meter.proofs.Live.{In-every}
-use Rattle.obs_assign.specs.Assignment.{Assignment, IsWhole, StandsOver, branch_at, has_flag, pairs}
+use Rattle.obs_assign.specs.Assignment.{Assignment}
+use Rattle.obs_assign.specs.inner.Assignment.{IsWhole, StandsOver, branch_at, has_flag, pairs}
 use Rattle.obs_assign.proofs.Slotted.{none_some}
 use Rattle.obs_assign.proofs.Standing.{IsAssignmentAt-standing}
 use Rattle.obs_exchange.specs.declared.Sources.TheVariants.{One}
-use Rattle.obs_exchange.specs.Found.{HasClosed, HasGrown}
-use Rattle.obs_exchange.specs.Laws.{IsThawed}
-use Rattle.obs_exchange.specs.Longest.{IsLongest, IsMost}
+use Rattle.obs_exchange.specs.inner.Found.{HasClosed, HasGrown}
+use Rattle.obs_exchange.specs.inner.Laws.{IsThawed}
+use Rattle.obs_exchange.specs.inner.Longest.{IsLongest, IsMost}
 use Rattle.obs_exchange.proofs.Longest.{IsLongest-ended}
 use Rattle.obs_network.specs.Network.{Network, case_branches, case_meters, network_of}
 use Rattle.obs_network.proofs.Edited.{branches-with_meter}
 use Rattle.obs_network.proofs.OfCase.{length-case_meters}
 use Rattle.obs_repair.specs.declared.edit.Edit.TheVariants as edit
-use Rattle.obs_repair.specs.Repairing.{AreLeft, IsBack, IsBefore}
+use Rattle.obs_repair.specs.inner.Repairing.{AreLeft, IsBack, IsBefore}
 use Rattle.obs_repair.proofs.Flagged.{meters-edited, set_meter}
 use Rattle.obs_repair.proofs.Metered.{assigns_without, touched_before, without_one}
 use Rattle.obs_repair.proofs.MostPairs.{all_left}

@@ -7,13 +7,14 @@ use Rattle.obs_graph.specs.declared.Ends.{Ends}
 use Rattle.obs_graph.specs.Graph.{Graph}
 use Rattle.obs_graph.specs.Joined.{rank}
 use Rattle.obs_graph.specs.Positions.{AreBranches, ends_of, present}
-use Rattle.obs_graph.specs.Search.{IsRooted, State}
+use Rattle.obs_graph.specs.inner.Search.{IsRooted, State}
 use Rattle.obs_graph.proofs.AtPositions.{contains-ends_of, ends_of-contains, rank-from_IsForestAt}
 use Rattle.obs_graph.proofs.Forests.{rank-among, same_first-among}
 use Rattle.obs_graph.proofs.IsJoined.{same-from_true, true-from_same}
 use Rattle.obs_graph.proofs.Present.{contains_present, present_contains}
 use Rattle.obs_matroid.specs.Lists.{In}
-use Rattle.obs_matroid.specs.Assignments.{Pair, items, part}
+use Rattle.obs_matroid.specs.Assignments.{Pair, items}
+use Rattle.obs_matroid.specs.inner.Assignments.{part}
 use Rattle.obs_matroid.proofs.Contained.{Contains-from_In, In-from_Contains}
 use Rattle.obs_matroid.proofs.Lists.{In-filter_from, IsDistinct-filter, clash, length-split, length-within}
 use Rattle.obs_matroid.proofs.Pairs.{In-branches, In-branches_from, In-items, In-part, In-part_from, IsDistinct-part}
@@ -23,14 +24,15 @@ use Rattle.obs_meter.specs.Spanned.{ends_at}
 use Rattle.obs_meter.specs.Touches.{every_item}
 use Rattle.obs_meter.proofs.Assigned.{every_item-distinct}
 use Rattle.obs_meter.proofs.Touched.{live-from_In}
-use Rattle.obs_assign.specs.Assignment.{Assignment, IsWhole, StandsOver, branch_at, has_flag, is_frozen, pairs}
+use Rattle.obs_assign.specs.Assignment.{Assignment}
+use Rattle.obs_assign.specs.inner.Assignment.{IsWhole, StandsOver, branch_at, has_flag, is_frozen, pairs}
 use Rattle.obs_assign.proofs.Standing.{IsAssignmentAt-standing}
 use Rattle.obs_exchange.specs.declared.Sources.TheVariants.{All}
-use Rattle.obs_exchange.specs.Closed.{own_branches}
-use Rattle.obs_exchange.specs.Found.{HasClosed}
-use Rattle.obs_exchange.specs.Laws.{IsThawed}
+use Rattle.obs_exchange.specs.inner.Closed.{own_branches}
+use Rattle.obs_exchange.specs.inner.Found.{HasClosed}
+use Rattle.obs_exchange.specs.inner.Laws.{IsThawed}
 use Rattle.obs_network.proofs.KeptForests.{InRange-ends_of}
-use Rattle.obs_repair.specs.Parts.{AreBounding, HoldsOwn, is_between}
+use Rattle.obs_repair.specs.inner.Parts.{AreBounding, HoldsOwn, is_between}
 use Rattle.obs_repair.proofs.Bounding.{between-from}
 use Rattle.obs_repair.proofs.Retained.{assigns-within}
 

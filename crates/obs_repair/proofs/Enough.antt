@@ -3,9 +3,10 @@ use Rattle.std.proofs.Common.{◌≡◌, ◌↔◌, ℕ, ◌<◌, ◌≤◌, Boo
 use Rattle.std.specs.Prelude.{◌==◌, IsTrue}
 use Rattle.std.proofs.lemmas.Bool.{eq-eqb, eqb-true}
 use Rattle.obs_case.specs.Tables.{IsValid, Tables}
-use Rattle.obs_matroid.specs.Assignments.{Pair, part}
-use Rattle.obs_matroid.specs.Closed.{IsLeastClosed, every, none}
-use Rattle.obs_matroid.specs.Components.{is_of}
+use Rattle.obs_matroid.specs.Assignments.{Pair}
+use Rattle.obs_matroid.specs.inner.Assignments.{part}
+use Rattle.obs_matroid.specs.inner.Closed.{IsLeastClosed, every, none}
+use Rattle.obs_matroid.specs.inner.Components.{is_of}
 use Rattle.obs_matroid.proofs.Components.{component_longest}
 use Rattle.obs_matroid.proofs.Least.{grows_or_closes}
 use Rattle.obs_matroid.proofs.Lists.{clash, filter_same}
@@ -14,14 +15,15 @@ use Rattle.obs_meter.specs.Spanned.{graph_matroid}
 use Rattle.obs_meter.specs.Touches.{touch_at}
 use Rattle.obs_meter.proofs.Assigned.{from_matroid, live_items-distinct, to_matroid}
 use Rattle.obs_meter.proofs.Instance.{IsMatroid-graph}
-use Rattle.obs_assign.specs.Assignment.{Assignment, pairs}
+use Rattle.obs_assign.specs.Assignment.{Assignment}
+use Rattle.obs_assign.specs.inner.Assignment.{pairs}
 use Rattle.obs_exchange.proofs.AtGraph.{IsAssignment-live}
 use Rattle.obs_network.specs.Network.{case_branches, case_component_count, case_meters, case_need, case_vertex_count, network_of}
 use Rattle.obs_network.specs.Observable.{IsObservable, branch_component, case_live_meters, item_component}
 use Rattle.obs_network.proofs.InComponents.{kinds_sum, touched_component}
 use Rattle.obs_network.proofs.Observed.{few_in, pairs_in}
 use Rattle.obs_network.proofs.OfCase.{case_branches-are}
-use Rattle.obs_repair.specs.Kept.{AreLongest}
+use Rattle.obs_repair.specs.inner.Kept.{AreLongest}
 
 module _ (t : Tables) (v : IsValid t) (a : Assignment) (h : AreLongest t a) where
   pub live_pairs : IsAssignmentAt (case_branches t) (case_meters t) (case_live_meters t) (pairs a)

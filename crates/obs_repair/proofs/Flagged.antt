@@ -10,7 +10,8 @@ use Rattle.obs_case.specs.Flags.{changed_at, with_branch_inservice, with_closed,
 use Rattle.obs_case.specs.Tables.{IsValid, Tables}
 use Rattle.obs_case.proofs.ValidLemmas.{valid-with_branch_inservice, valid-with_closed, valid-with_meter_inservice}
 use Rattle.obs_network.specs.Angles.{has_angle}
-use Rattle.obs_network.specs.Network.{Rows, case_meters, case_position_count, rows_of}
+use Rattle.obs_network.specs.Network.{Rows, case_meters, rows_of}
+use Rattle.obs_network.specs.inner.Network.{case_position_count}
 use Rattle.obs_network.proofs.Edited.{flags-with_meter}
 use Rattle.obs_network.proofs.OfCase.{length-case_meters}
 use Rattle.obs_network.proofs.OfLaws.{rows-with_branch, rows-with_closed, rows-with_meter}

@@ -15,18 +15,20 @@ use Rattle.obs_meter.specs.declared.Touch.{Touch}
 use Rattle.obs_meter.specs.declared.Touch.TheVariants.{Nothing}
 use Rattle.obs_meter.specs.Touches.{touch_at}
 use Rattle.obs_meter.proofs.Touched.{touched-present}
-use Rattle.obs_assign.specs.Assignment.{Assignment, IsWhole, StandsOver, branch_at, pairs}
+use Rattle.obs_assign.specs.Assignment.{Assignment}
+use Rattle.obs_assign.specs.inner.Assignment.{IsWhole, StandsOver, branch_at, pairs}
 use Rattle.obs_assign.proofs.Keeping.{slot_without}
 use Rattle.obs_assign.proofs.Slotted.{distinct_branches}
 use Rattle.obs_assign.proofs.Standing.{still_at, still_from}
-use Rattle.obs_network.specs.Edited.{AreSameBut}
+use Rattle.obs_network.specs.inner.Edited.{AreSameBut}
 use Rattle.obs_network.specs.Network.{Network, case_branches, case_meters, network_of}
 use Rattle.obs_network.proofs.Edited.{branch_is, branches-with_meter}
 use Rattle.obs_network.proofs.OfCase.{length-case_branches, length-case_meters}
 use Rattle.obs_repair.specs.declared.edit.Edit.{Edit}
 use Rattle.obs_repair.specs.declared.edit.Edit.TheVariants as edit
-use Rattle.obs_repair.specs.Edits.{HasRow, edited, standing}
-use Rattle.obs_repair.specs.Repairing.{AreKept, AreLeft, HasPlace, IsBefore, IsMeterTaken, IsSaidAlone, IsTaken}
+use Rattle.obs_repair.specs.Edits.{edited}
+use Rattle.obs_repair.specs.inner.Edits.{HasRow, standing}
+use Rattle.obs_repair.specs.inner.Repairing.{AreKept, AreLeft, HasPlace, IsBefore, IsMeterTaken, IsSaidAlone, IsTaken}
 use Rattle.obs_repair.proofs.Absent.{absent-out}
 use Rattle.obs_repair.proofs.Flagged.{meters-edited}
 use Rattle.obs_repair.proofs.Metered.{stands-lost, stands-regained, touched_before}

@@ -5,8 +5,9 @@ use Rattle.std.proofs.lemmas.Bool.{cases_eq, cases_lt}
 use Rattle.std.proofs.lemmas.List.{get_or_default, get_or_past}
 use Rattle.obs_graph.specs.declared.Ends.{Ends}
 use Rattle.obs_matroid.proofs.Lists.{clash}
-use Rattle.obs_assign.specs.Assignment.{Assignment, branch_at, has_flag}
-use Rattle.obs_repair.specs.Parts.{HoldsOwn}
+use Rattle.obs_assign.specs.Assignment.{Assignment}
+use Rattle.obs_assign.specs.inner.Assignment.{branch_at, has_flag}
+use Rattle.obs_repair.specs.inner.Parts.{HoldsOwn}
 
 below : {m k : ℕ} → m < k → m < k + 1
 below low = omega (arith, low)

@@ -18,11 +18,11 @@ use Rattle.obs_meter.proofs.Assigned.{every_item-distinct}
 use Rattle.obs_meter.proofs.Instance.{in_range}
 use Rattle.obs_meter.proofs.Touched.{live-from_In}
 use Rattle.obs_meter.proofs.Live.{In-every, live_low}
-use Rattle.obs_network.specs.Edited.{AreSameBut}
+use Rattle.obs_network.specs.inner.Edited.{AreSameBut}
 use Rattle.obs_network.specs.Network.{Network, case_branches, case_meters, case_vertex_count, network_of}
 use Rattle.obs_network.proofs.Edited.{branches-with_meter}
 use Rattle.obs_network.proofs.OfCase.{case_branches-are}
-use Rattle.obs_repair.specs.Parts.{AreBounding, BoundsNetwork, is_between, is_inside, is_within}
+use Rattle.obs_repair.specs.inner.Parts.{AreBounding, BoundsNetwork, is_between, is_inside, is_within}
 use Rattle.obs_repair.proofs.Bounding.{between-by, between-from, is_joined_at}
 use Rattle.obs_repair.proofs.Metered.{none_touched, same_count, same_graph, same_touch}
 

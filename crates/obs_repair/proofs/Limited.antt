@@ -2,14 +2,14 @@
 use Rattle.std.proofs.Common.{◌⊎◌, inl, inr, ◌≡◌, ℕ, ◌+◌, ◌-◌, Bool, true, false, Option, Some, List, length, sym, ap, ◌∙◌, subst}
 use Rattle.std.specs.Prelude.{IfSome}
 use Rattle.obs_graph.specs.Positions.{AreBranches}
-use Rattle.obs_exchange.specs.Longest.{IsMost}
+use Rattle.obs_exchange.specs.inner.Longest.{IsMost}
 use Rattle.obs_network.specs.Network.{Network, network_of}
 use Rattle.obs_network.proofs.OfCase.{case_branches-are}
 use Rattle.obs_repair.specs.declared.edit.Edit.{Edit}
 use Rattle.obs_repair.specs.declared.edit.Edit.TheVariants as edit
 use Rattle.obs_repair.specs.Edits.{edited}
-use Rattle.obs_repair.specs.Parts.{AreBoundBefore, BoundsNetwork, IsSaidBetween, is_inside, is_within}
-use Rattle.obs_repair.specs.Repairing.{IsSaidAlone}
+use Rattle.obs_repair.specs.inner.Parts.{AreBoundBefore, BoundsNetwork, IsSaidBetween, is_inside, is_within}
+use Rattle.obs_repair.specs.inner.Repairing.{IsSaidAlone}
 use Rattle.obs_repair.proofs.Bounding.{most-bounded}
 use Rattle.obs_repair.proofs.Flagged.{meters-edited}
 use Rattle.obs_repair.proofs.KeptParts.{bounds-but, bounds-lost, bounds-lost_between, bounds-regained, bounds-regained_within}

@@ -12,7 +12,8 @@ use Rattle.obs_graph.specs.declared.Ends.{Ends}
 use Rattle.obs_graph.specs.Positions.{IsForestAt}
 use Rattle.obs_graph.specs.Graph.{Graph}
 use Rattle.obs_matroid.specs.Lists.{In, IsDistinct, other_than}
-use Rattle.obs_matroid.specs.Assignments.{Pair, branches, items, part}
+use Rattle.obs_matroid.specs.Assignments.{Pair, branches, items}
+use Rattle.obs_matroid.specs.inner.Assignments.{part}
 use Rattle.obs_matroid.proofs.Lists.{length-within, other_ne, other_true}
 use Rattle.obs_matroid.proofs.Pairs.{In-items, In-items_from, In-part, In-part_from, IsDistinct-part}
 use Rattle.obs_meter.specs.declared.Touch.{Touch}
@@ -24,9 +25,10 @@ use Rattle.obs_network.specs.Network.{case_branches, case_component_count, case_
 use Rattle.obs_network.specs.Touching.{meter_touches, touch_of}
 use Rattle.obs_network.proofs.Edited.{branches-with_meter}
 use Rattle.obs_network.proofs.OfCase.{case_branches-are, length-case_meters}
-use Rattle.obs_assign.specs.Assignment.{Assignment, StandsOver, branch_at}
+use Rattle.obs_assign.specs.Assignment.{Assignment}
+use Rattle.obs_assign.specs.inner.Assignment.{StandsOver, branch_at}
 use Rattle.obs_assign.proofs.Slotted.{none_some}
-use Rattle.obs_exchange.specs.Longest.{IsMost}
+use Rattle.obs_exchange.specs.inner.Longest.{IsMost}
 use Rattle.obs_repair.proofs.Retained.{assigns-within}
 
 abbrev flagged : Bool → Meter → Meter

@@ -12,17 +12,19 @@ use Rattle.obs_matroid.proofs.Pairs.{In-items, In-items_from}
 use Rattle.obs_matroid.proofs.Slots.{IsDistinct-slots, slot_from}
 use Rattle.obs_meter.specs.Touches.{every_item}
 use Rattle.obs_meter.proofs.Assigned.{every-to_live}
-use Rattle.obs_assign.specs.Assignment.{Assignment, branch_at, pairs}
+use Rattle.obs_assign.specs.Assignment.{Assignment}
+use Rattle.obs_assign.specs.inner.Assignment.{branch_at, pairs}
 use Rattle.obs_assign.proofs.Slotted.{none_some}
-use Rattle.obs_exchange.specs.Lengthened.{HasLengthened}
-use Rattle.obs_exchange.specs.Longest.{IsMost}
+use Rattle.obs_exchange.specs.inner.Lengthened.{HasLengthened}
+use Rattle.obs_exchange.specs.inner.Longest.{IsMost}
 use Rattle.obs_network.specs.Network.{Network, case_branches, case_meters, case_needed, network_of}
 use Rattle.obs_network.proofs.Observed.{most_pairs as most_needed}
 use Rattle.obs_network.proofs.OfCase.{case_branches-are}
 use Rattle.obs_repair.specs.declared.edit.Edit.{Edit}
 use Rattle.obs_repair.specs.declared.edit.Edit.TheVariants as edit
-use Rattle.obs_repair.specs.Edits.{HasRow, TakesOne, edited}
-use Rattle.obs_repair.specs.Repairing.{AreLeft, IsBefore, IsSaidAlone, IsTaken, most_pairs}
+use Rattle.obs_repair.specs.Edits.{edited}
+use Rattle.obs_repair.specs.inner.Edits.{HasRow, TakesOne}
+use Rattle.obs_repair.specs.inner.Repairing.{AreLeft, IsBefore, IsSaidAlone, IsTaken, most_pairs}
 use Rattle.obs_repair.proofs.Absent.{absent-out}
 use Rattle.obs_repair.proofs.GivenUp.{as_many, same_but, unchanged}
 use Rattle.obs_repair.proofs.Metered.{most-lost, most-regained}

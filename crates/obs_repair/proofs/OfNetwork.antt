@@ -4,18 +4,19 @@ use Rattle.std.proofs.lemmas.List.{length-map}
 use Rattle.obs_graph.specs.Graph.{Graph}
 use Rattle.obs_case.specs.Tables.{IsValid, Tables, most_rows}
 use Rattle.obs_meter.specs.Held.{Meters}
-use Rattle.obs_meter.specs.Sizes.{HasRoomFor, Sizes}
+use Rattle.obs_meter.specs.inner.Sizes.{HasRoomFor, Sizes}
 use Rattle.obs_meter.specs.Touches.{every_item}
 use Rattle.obs_meter.proofs.Assigned.{rho_at-unique}
-use Rattle.obs_assign.specs.Assignment.{Assignment, Fits, pairs}
-use Rattle.obs_exchange.specs.Found.{Work}
+use Rattle.obs_assign.specs.Assignment.{Assignment}
+use Rattle.obs_assign.specs.inner.Assignment.{Fits, pairs}
+use Rattle.obs_exchange.specs.inner.Found.{Work}
 use Rattle.obs_network.specs.Network.{case_branches, case_meters, case_needed, network_of}
 use Rattle.obs_network.specs.Observable.{case_live_meters, case_rank}
 use Rattle.obs_network.proofs.FewLost.{rank_is}
 use Rattle.obs_network.proofs.OfCase.{case_vertex_count-le, length-case_branches, length-case_meters}
 use Rattle.obs_network.proofs.Observed.{most_pairs}
-use Rattle.obs_exchange.specs.Longest.{IsLongest, IsMost}
-use Rattle.obs_repair.specs.Kept.{AreLongest, HasRoom, case_room}
+use Rattle.obs_exchange.specs.inner.Longest.{IsLongest, IsMost}
+use Rattle.obs_repair.specs.inner.Kept.{AreLongest, HasRoom, case_room}
 
 pub few_meters : (t : Tables) → IsValid t → length (case_meters t) ≤ most_rows
 few_meters t v =

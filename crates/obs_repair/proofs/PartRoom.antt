@@ -1,14 +1,17 @@
 -- The room of parts, and the place of an edit in the network.
 use Rattle.std.proofs.Common.{◌≡◌, ℕ, ◌*◌, ◌≤◌, Bool, length, sym, ap, ◌∙◌, subst, arith}
 use Rattle.obs_case.specs.Tables.{IsValid, Tables}
-use Rattle.obs_assign.specs.Assignment.{Assignment, pairs}
-use Rattle.obs_network.specs.Network.{Network, Rows, case_branches, case_meters, case_position_count, case_vertex_count, case_vertex_room, network_of}
+use Rattle.obs_assign.specs.Assignment.{Assignment}
+use Rattle.obs_assign.specs.inner.Assignment.{pairs}
+use Rattle.obs_network.specs.Network.{Network, Rows, case_branches, case_meters, case_vertex_count, case_vertex_room, network_of}
+use Rattle.obs_network.specs.inner.Network.{case_position_count}
 use Rattle.obs_network.proofs.OfCase.{case_vertex_count-le, length-case_branches, length-case_meters}
 use Rattle.obs_repair.specs.declared.edit.Edit.{Edit}
 use Rattle.obs_repair.specs.declared.edit.Edit.TheVariants as edit
-use Rattle.obs_repair.specs.Edits.{HasRow, edited}
-use Rattle.obs_repair.specs.Parts.{AreBoundBefore, BoundsNetwork, HasRoomForParts, IsPlaceIn, IsSaidBetween, Parts}
-use Rattle.obs_repair.specs.Repairing.{IsBefore, IsSaidAlone}
+use Rattle.obs_repair.specs.Edits.{edited}
+use Rattle.obs_repair.specs.inner.Edits.{HasRow}
+use Rattle.obs_repair.specs.inner.Parts.{AreBoundBefore, BoundsNetwork, HasRoomForParts, IsPlaceIn, IsSaidBetween, Parts}
+use Rattle.obs_repair.specs.inner.Repairing.{IsBefore, IsSaidAlone}
 use Rattle.obs_repair.proofs.Flagged.{meters-edited, positions-edited, rows-edited}
 
 place_by : (t : Tables) (e : Edit) (n : Network) → HasRow t e → length n.graph.ends ≡ case_position_count t → length n.meters.touches ≡ length (case_meters t) → IsPlaceIn e n

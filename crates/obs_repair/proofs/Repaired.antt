@@ -14,19 +14,22 @@ use Rattle.obs_meter.specs.Held.{Meters}
 use Rattle.obs_meter.specs.Assignments.{IsAssignmentAt}
 use Rattle.obs_meter.specs.Spanned.{rank_at}
 use Rattle.obs_meter.specs.Touches.{every_item}
-use Rattle.obs_assign.specs.Assignment.{Assignment, IsWhole, StandsOver, pairs}
-use Rattle.obs_assign.specs.Still.{AreRetained, is_still, still}
+use Rattle.obs_assign.specs.Assignment.{Assignment}
+use Rattle.obs_assign.specs.inner.Assignment.{IsWhole, StandsOver, pairs}
+use Rattle.obs_assign.specs.inner.Still.{AreRetained, is_still, still}
 use Rattle.obs_assign.proofs.Standing.{IsAssignmentAt-standing, length-retained, still_at, still_from}
 use Rattle.obs_assign.proofs.Slotted.{none_some}
-use Rattle.obs_exchange.specs.Lengthened.{HasLengthened}
-use Rattle.obs_network.specs.Network.{case_branches, case_meters, case_position_count, case_vertex_count, case_vertex_room, network_of}
-use Rattle.obs_network.specs.Edited.{ArePresent}
+use Rattle.obs_exchange.specs.inner.Lengthened.{HasLengthened}
+use Rattle.obs_network.specs.Network.{case_branches, case_meters, case_vertex_count, case_vertex_room, network_of}
+use Rattle.obs_network.specs.inner.Network.{case_position_count}
+use Rattle.obs_network.specs.inner.Edited.{ArePresent}
 use Rattle.obs_network.proofs.KeptForests.{forest_closed, forest_opened, forest_rank, forest_with_branch, forest_with_meter}
 use Rattle.obs_network.proofs.OfCase.{case_branches-are, case_vertex_count-le, length-case_branches}
 use Rattle.obs_repair.specs.declared.edit.Edit.{Edit}
 use Rattle.obs_repair.specs.declared.edit.Edit.TheVariants as edit
-use Rattle.obs_repair.specs.Edits.{IsRepaired, edited, standing}
-use Rattle.obs_repair.specs.Repairing.{AreKept, StoodBefore}
+use Rattle.obs_repair.specs.Edits.{edited}
+use Rattle.obs_repair.specs.inner.Edits.{IsRepaired, standing}
+use Rattle.obs_repair.specs.inner.Repairing.{AreKept, StoodBefore}
 use Rattle.obs_repair.proofs.Flagged.{meters-edited, positions-edited}
 use Rattle.obs_repair.proofs.Retained.{few, forest-still, lost_one, present-still}
 

@@ -17,9 +17,9 @@ use Rattle.obs_meter.specs.Touches.{touch_at}
 use Rattle.obs_meter.proofs.Assigned.{from_matroid, to_matroid}
 use Rattle.obs_meter.proofs.Instance.{IsMatroid-graph}
 use Rattle.obs_meter.proofs.Touched.{touched-present}
-use Rattle.obs_assign.specs.Still.{is_still, still}
+use Rattle.obs_assign.specs.inner.Still.{is_still, still}
 use Rattle.obs_assign.proofs.Standing.{still_from}
-use Rattle.obs_network.specs.Edited.{ArePresent}
+use Rattle.obs_network.specs.inner.Edited.{ArePresent}
 
 -- the kept pairs are some of those that stand, and at most one fewer
 module _ (standing kept : List Pair) (apart : IsDistinct (items standing)) (apart_kept : IsDistinct (items kept)) (within : (p : Pair) → In p kept → In p standing) where

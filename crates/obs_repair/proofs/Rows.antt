@@ -18,7 +18,7 @@ use Rattle.obs_repair.specs.declared.edit.Meant.{Meant}
 use Rattle.obs_repair.specs.declared.edit.Meant.TheVariants.{Edits, Asks}
 use Rattle.obs_repair.specs.declared.edit.Refusal.{Refusal}
 use Rattle.obs_repair.specs.declared.edit.Refusal.TheVariants.{NoCandidates, UnknownBranch, UnknownMeter, UnknownSwitch}
-use Rattle.obs_repair.specs.Edits.{HasRow}
+use Rattle.obs_repair.specs.inner.Edits.{HasRow}
 use Rattle.obs_repair.specs.Lines.{edit_at, is_place, meaning_of, meant_by, meant_of, refusal_of}
 
 abbrev same_meaning : Result Meant Refusal → Result Meant Refusal → Type 0

@@ -14,10 +14,11 @@ use Rattle.obs_meter.specs.declared.Touch.TheVariants.{Nothing}
 use Rattle.obs_meter.specs.Assignments.{IsAssignmentAt}
 use Rattle.obs_meter.specs.Touches.{every_item}
 use Rattle.obs_meter.proofs.Touched.{touched-present}
-use Rattle.obs_assign.specs.Assignment.{Assignment, IsWhole, StandsOver, branch_at}
+use Rattle.obs_assign.specs.Assignment.{Assignment}
+use Rattle.obs_assign.specs.inner.Assignment.{IsWhole, StandsOver, branch_at}
 use Rattle.obs_assign.proofs.Slotted.{IsForestAt-agree, branch_slot, distinct_branches}
-use Rattle.obs_exchange.specs.Longest.{IsMost}
-use Rattle.obs_network.specs.Edited.{AreSameBut}
+use Rattle.obs_exchange.specs.inner.Longest.{IsMost}
+use Rattle.obs_network.specs.inner.Edited.{AreSameBut}
 use Rattle.obs_network.specs.Network.{Network}
 use Rattle.obs_repair.proofs.Retained.{assigns-within}
 

@@ -1,15 +1,18 @@
 -- Pairs that an edit leaves as they are, and the room after it.
 use Rattle.std.proofs.Common.{◌≡◌, ℕ, ◌*◌, length, refl, sym, ap, ◌∙◌, subst, arith}
 use Rattle.obs_case.specs.Tables.{Tables}
-use Rattle.obs_assign.specs.Assignment.{Assignment, StandsOver, pairs}
-use Rattle.obs_exchange.specs.Found.{Work}
-use Rattle.obs_exchange.specs.Lengthened.{HasLengthened}
-use Rattle.obs_network.specs.Network.{Rows, case_meters, case_position_count, network_of, rows_of}
-use Rattle.obs_meter.specs.Sizes.{Sizes}
+use Rattle.obs_assign.specs.Assignment.{Assignment}
+use Rattle.obs_assign.specs.inner.Assignment.{StandsOver, pairs}
+use Rattle.obs_exchange.specs.inner.Found.{Work}
+use Rattle.obs_exchange.specs.inner.Lengthened.{HasLengthened}
+use Rattle.obs_network.specs.Network.{Rows, case_meters, network_of, rows_of}
+use Rattle.obs_network.specs.inner.Network.{case_position_count}
+use Rattle.obs_meter.specs.inner.Sizes.{Sizes}
 use Rattle.obs_repair.specs.declared.edit.Edit.{Edit}
 use Rattle.obs_repair.specs.declared.edit.Edit.TheVariants as edit
-use Rattle.obs_repair.specs.Edits.{IsRepaired, TakesOne, edited}
-use Rattle.obs_repair.specs.Kept.{HasRoom, case_room}
+use Rattle.obs_repair.specs.Edits.{edited}
+use Rattle.obs_repair.specs.inner.Edits.{IsRepaired, TakesOne}
+use Rattle.obs_repair.specs.inner.Kept.{HasRoom, case_room}
 use Rattle.obs_repair.proofs.Flagged.{positions-edited, rows-edited}
 use Rattle.obs_repair.proofs.Repaired.{IsRepaired-by, kept-same}
 

@@ -4,11 +4,13 @@ use Rattle.std.specs.Prelude.{◌==◌, flat_map}
 use Rattle.std.proofs.lemmas.Bool.{cases_Bool}
 use Rattle.obs_case.specs.Tables.{Tables, IsValid}
 use Rattle.obs_matroid.specs.Lists.{In, IsDistinct}
-use Rattle.obs_matroid.specs.Matroid.{Matroid, IsMatroid}
-use Rattle.obs_matroid.specs.Assignments.{Pair, IsAssignment, IsRho, part}
-use Rattle.obs_matroid.specs.Bounds.{bound}
-use Rattle.obs_matroid.specs.Closed.{IsLeastClosed, every, none}
-use Rattle.obs_matroid.specs.Components.{IsSumOfKinds, is_of}
+use Rattle.obs_matroid.specs.Matroid.{Matroid}
+use Rattle.obs_matroid.specs.inner.Matroid.{IsMatroid}
+use Rattle.obs_matroid.specs.Assignments.{Pair, IsAssignment}
+use Rattle.obs_matroid.specs.inner.Assignments.{IsRho, part}
+use Rattle.obs_matroid.specs.inner.Bounds.{bound}
+use Rattle.obs_matroid.specs.inner.Closed.{IsLeastClosed, every, none}
+use Rattle.obs_matroid.specs.inner.Components.{IsSumOfKinds, is_of}
 use Rattle.obs_matroid.specs.Values.{is_critical, rho_of}
 use Rattle.obs_matroid.proofs.Components.{component_longest, component_tight}
 use Rattle.obs_matroid.proofs.Computed.{is_critical_is, rho_of_is}

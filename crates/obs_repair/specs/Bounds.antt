@@ -1,10 +1,9 @@
 -- The critical meters of a case, what each component can have, and the list that shows a shortage.
-use Rattle.std.specs.Prelude.{◌≡◌, false, slice_index_or, ℕ, ◌==◌, ◌&&◌, Bool, not, List, length, filter, flat_map}
+use Rattle.std.specs.Prelude.{ℕ, ◌==◌, ◌&&◌, Bool, not, List, length, filter, flat_map}
 use Rattle.std.specs.List.{range_with_len}
 use Rattle.obs_case.specs.Tables.{Tables}
 use Rattle.obs_meter.specs.Spanned.{rank_at}
 use Rattle.obs_meter.specs.Touches.{touch_at}
-use Rattle.obs_matroid.specs.Lists.{In}
 use Rattle.obs_exchange.specs.Critical.{critical_at, critical_meters}
 use Rattle.obs_network.specs.Network.{case_branches, case_component_count, case_meters, case_need, case_vertex_count}
 use Rattle.obs_network.specs.Observable.{case_live_meters, is_energised_component, item_component, rank_of_meters}
@@ -48,8 +47,3 @@ bound_rank t c = rank_at (case_vertex_count t) (case_branches t) (flat_map (touc
 -- the number of the component's other live meters
 unfoldable pub bound_outside : Tables → ℕ → ℕ
 bound_outside t c = length (filter (is_critical_meter t) (component_meters t c))
-
--- the flags mark, of the live meters, those that aren't critical
-pub record AreMarks (t : Tables) (flags : List Bool) : Type 0 where
-  pub one_each : length flags ≡ length (case_meters t)
-  pub mark : (m : ℕ) → In m (case_live_meters t) → slice_index_or flags m false ≡ not (is_critical_meter t m)

@@ -1,6 +1,4 @@
-pub mod Kept
 pub mod Edits
 pub mod Lines
-pub mod Repairing
-pub mod Parts
 pub mod Bounds
+pub mod inner

@@ -1,6 +1,6 @@
 // What the pairs and the marks say of one component, whose live meters these are.
 ghost use Rattle.std.specs.Prelude.{◌≡◌, ◌<◌, ◌≤◌, ◌^◌, All, filter, is_some, length, take};
-ghost use Rattle.obs_assign.specs.Assignment.{branch_at, has_flag};
+ghost use Rattle.obs_assign.specs.inner.Assignment.{branch_at, has_flag};
 
 use obs_assign::Assignment;
 

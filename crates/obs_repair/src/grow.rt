@@ -1,16 +1,16 @@
 // The searches of a repair.
 ghost use Rattle.std.specs.Prelude.{◌≡◌, ◌+◌, ◌-◌, ◌≤◌, ℕ, true, length};
-ghost use Rattle.obs_meter.specs.Sizes.{HasRoomFor};
-ghost use Rattle.obs_assign.specs.Assignment.{HasRoomOf, StandsOver, pairs};
+ghost use Rattle.obs_meter.specs.inner.Sizes.{HasRoomFor};
+ghost use Rattle.obs_assign.specs.inner.Assignment.{HasRoomOf, StandsOver, pairs};
 ghost use Rattle.obs_exchange.specs.declared.Sources.TheVariants.{All};
-ghost use Rattle.obs_exchange.specs.Found.{HasClosed};
-ghost use Rattle.obs_exchange.specs.Laws.{IsThawed};
-ghost use Rattle.obs_exchange.specs.Lengthened.{HasLengthened};
-ghost use Rattle.obs_exchange.specs.Longest.{IsMost};
+ghost use Rattle.obs_exchange.specs.inner.Found.{HasClosed};
+ghost use Rattle.obs_exchange.specs.inner.Laws.{IsThawed};
+ghost use Rattle.obs_exchange.specs.inner.Lengthened.{HasLengthened};
+ghost use Rattle.obs_exchange.specs.inner.Longest.{IsMost};
 ghost use Rattle.obs_network.specs.Network.{case_branches, case_meters, network_of};
 ghost use Rattle.obs_repair.specs.declared.edit.Edit.TheVariants.{Meter};
-ghost use Rattle.obs_repair.specs.Kept.{AreLongest};
-ghost use Rattle.obs_repair.specs.Repairing.{IsBack, IsMeterBack};
+ghost use Rattle.obs_repair.specs.inner.Kept.{AreLongest};
+ghost use Rattle.obs_repair.specs.inner.Repairing.{IsBack, IsMeterBack};
 
 use crate::edit::Edit;
 use obs_assign::{Assignment, Steps};

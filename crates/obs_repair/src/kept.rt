@@ -1,7 +1,7 @@
 // The kept pairs, the arrays of their searches, and the parts that bound them.
 ghost use Rattle.std.specs.Prelude.{◌≡◌, IfOk, false};
-ghost use Rattle.obs_repair.specs.Parts.{HasRoomForParts};
-ghost use Rattle.obs_repair.specs.Kept.{AreLongest, HasRoom};
+ghost use Rattle.obs_repair.specs.inner.Parts.{HasRoomForParts};
+ghost use Rattle.obs_repair.specs.inner.Kept.{AreLongest, HasRoom};
 
 use crate::memory::NoMemory;
 use crate::parts::Parts;

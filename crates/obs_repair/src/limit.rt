@@ -1,11 +1,11 @@
 // How many pairs the parts bound after an edit, and which parts are known after its searches.
 ghost use Rattle.std.specs.Prelude.{◌≡◌, ◌⊎◌, ◌+◌, ◌<◌, ◌≤◌, true, false, Some, IfSome, length};
-ghost use Rattle.obs_assign.specs.Assignment.{pairs};
+ghost use Rattle.obs_assign.specs.inner.Assignment.{pairs};
 ghost use Rattle.obs_exchange.specs.declared.Sources.TheVariants.{All};
-ghost use Rattle.obs_exchange.specs.Found.{HasClosed};
+ghost use Rattle.obs_exchange.specs.inner.Found.{HasClosed};
 ghost use Rattle.obs_network.specs.Network.{case_branches, case_meters, case_vertex_count, network_of};
-ghost use Rattle.obs_repair.specs.Kept.{AreLongest};
-ghost use Rattle.obs_repair.specs.Parts.{AreBoundBefore, BoundsNetwork, BoundsWhereKnown, IsPlaceIn, IsSaidBetween, is_within};
+ghost use Rattle.obs_repair.specs.inner.Kept.{AreLongest};
+ghost use Rattle.obs_repair.specs.inner.Parts.{AreBoundBefore, BoundsNetwork, BoundsWhereKnown, IsPlaceIn, IsSaidBetween, is_within};
 
 use crate::edit::Edit;
 use crate::parts::Parts;

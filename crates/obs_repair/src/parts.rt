@@ -2,13 +2,13 @@
 // the branches of the meters that it reached join the vertices of each part.
 ghost use Rattle.std.specs.Prelude.{◌≡◌, ◌<◌, ◌≤◌, ◌^◌, ℕ, true, false, None, Some, IfOk, length, slice_index_or};
 ghost use Rattle.obs_graph.specs.Positions.{AreBranches};
-ghost use Rattle.obs_meter.specs.Touches.{IsInRange};
+ghost use Rattle.obs_meter.specs.inner.Touches.{IsInRange};
 ghost use Rattle.obs_meter.specs.declared.Touch.TheVariants.{Nothing};
-ghost use Rattle.obs_assign.specs.Assignment.{branch_at, pairs};
+ghost use Rattle.obs_assign.specs.inner.Assignment.{branch_at, pairs};
 ghost use Rattle.obs_exchange.specs.declared.Sources.TheVariants.{All};
-ghost use Rattle.obs_exchange.specs.Found.{HasClosed};
-ghost use Rattle.obs_exchange.specs.Longest.{IsLongest};
-ghost use Rattle.obs_repair.specs.Parts.{AreBounding, HasRoomForParts, HoldsOwn, is_inside, is_within};
+ghost use Rattle.obs_exchange.specs.inner.Found.{HasClosed};
+ghost use Rattle.obs_exchange.specs.inner.Longest.{IsLongest};
+ghost use Rattle.obs_repair.specs.inner.Parts.{AreBounding, HasRoomForParts, HoldsOwn, is_inside, is_within};
 
 use crate::memory::NoMemory;
 use obs_assign::Assignment;
@@ -60,7 +60,7 @@ pub struct Parts {
 
 impl Model for Parts {
     ghost use Rattle.std.specs.Prelude.{length};
-    ghost use Rattle.obs_repair.specs.Parts.{Parts};
+    ghost use Rattle.obs_repair.specs.inner.Parts.{Parts};
 
     ghost Value = { Parts };
 

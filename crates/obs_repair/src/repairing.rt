@@ -1,14 +1,15 @@
 // The kept pairs after an edit: what it takes away is given up, those that stand are kept, and searches make them longest.
 ghost use Rattle.std.specs.Prelude.{◌≡◌, ◌≢◌, ◌+◌, ◌≤◌, ℕ, false, IsTrue, MatchBool, None, length};
-ghost use Rattle.obs_assign.specs.Assignment.{HasRoomOf, IsWhole, StandsOver, branch_at, pairs as pairs_at};
-ghost use Rattle.obs_exchange.specs.Laws.{IsThawed};
+ghost use Rattle.obs_assign.specs.inner.Assignment.{HasRoomOf, IsWhole, StandsOver, branch_at, pairs as pairs_at};
+ghost use Rattle.obs_exchange.specs.inner.Laws.{IsThawed};
 ghost use Rattle.obs_network.specs.Network.{case_meters, case_vertex_room, network_of};
 ghost use Rattle.obs_network.specs.Observable.{case_rank};
 ghost use Rattle.obs_repair.specs.declared.edit.Edit.TheVariants.{Meter};
-ghost use Rattle.obs_repair.specs.Edits.{HasRow, IsRepaired, TakesOne, edited};
-ghost use Rattle.obs_repair.specs.Parts.{BoundsWhereKnown, HasRoomForParts};
-ghost use Rattle.obs_repair.specs.Repairing.{AreKept, AreLeft, HasPlace, IsBefore, IsMeterTaken, IsNetworkBefore, IsSaidAlone, StoodBefore, is_put, most_pairs};
-ghost use Rattle.obs_repair.specs.Kept.{AreLongest, HasRoom};
+ghost use Rattle.obs_repair.specs.Edits.{edited};
+ghost use Rattle.obs_repair.specs.inner.Edits.{HasRow, IsRepaired, TakesOne};
+ghost use Rattle.obs_repair.specs.inner.Parts.{BoundsWhereKnown, HasRoomForParts};
+ghost use Rattle.obs_repair.specs.inner.Repairing.{AreKept, AreLeft, HasPlace, IsBefore, IsMeterTaken, IsNetworkBefore, IsSaidAlone, StoodBefore, is_put, most_pairs};
+ghost use Rattle.obs_repair.specs.inner.Kept.{AreLongest, HasRoom};
 
 use crate::edit::Edit;
 use crate::grow::grow;

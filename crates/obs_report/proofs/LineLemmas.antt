@@ -4,7 +4,8 @@ use Rattle.std.specs.Prelude.{◌==◌}
 use Rattle.std.proofs.Math.ListN.{drop_of_length-le}
 use Rattle.std.proofs.Math.Seq.{drop-cons}
 use Rattle.std.proofs.lemmas.Bool.{ne_eqb}
-use Rattle.obs_report.specs.Lines.{end_text, line_of, tabbed, word_text}
+use Rattle.obs_report.specs.Lines.{line_of, tabbed}
+use Rattle.obs_report.specs.inner.Lines.{end_text, word_text}
 
 -- some words of a line, the first of which may be that of the line
 abbrev pub words_text : Bool → List (List ℕ) → List ℕ

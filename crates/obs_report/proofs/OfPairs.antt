@@ -7,20 +7,22 @@ use Rattle.std.proofs.lemmas.List.{get_or_past}
 use Rattle.obs_case.specs.Tables.{Tables, IsValid}
 use Rattle.obs_matroid.specs.Assignments.{Pair}
 use Rattle.obs_matroid.specs.Lists.{In}
-use Rattle.obs_matroid.specs.Slots.{pairs_from, pairs_of}
+use Rattle.obs_matroid.specs.inner.Slots.{pairs_from, pairs_of}
 use Rattle.obs_meter.specs.declared.Touch.{Touch}
 use Rattle.obs_meter.specs.declared.Touch.TheVariants.{Nothing}
 use Rattle.obs_meter.specs.Touches.{is_live, touch_at, touched}
 use Rattle.obs_meter.proofs.Touched.{live-from_In}
-use Rattle.obs_assign.specs.Assignment.{Assignment, StandsOver, branch_at}
+use Rattle.obs_assign.specs.Assignment.{Assignment}
+use Rattle.obs_assign.specs.inner.Assignment.{StandsOver, branch_at}
 use Rattle.obs_network.specs.Network.{case_branches, case_meters, case_offered, network_of}
-use Rattle.obs_network.specs.Located.{is_meter_in, live_meters_of}
+use Rattle.obs_network.specs.inner.Located.{is_meter_in, live_meters_of}
 use Rattle.obs_network.proofs.InComponents.{touched_component}
 use Rattle.obs_network.proofs.Items.{meter_is_item}
 use Rattle.obs_network.proofs.OfCase.{length-case_meters, length-case_offered}
 use Rattle.obs_network.proofs.WithoutAngles.{position_of_item}
-use Rattle.obs_report.specs.Items.{IsBranchOf, pair_line}
-use Rattle.obs_report.specs.Placements.{ArePairsOf}
+use Rattle.obs_report.specs.Items.{pair_line}
+use Rattle.obs_report.specs.inner.Items.{IsBranchOf}
+use Rattle.obs_report.specs.inner.Placements.{ArePairsOf}
 use Rattle.obs_report.specs.Trees.{lies_in, pair_lines}
 
 -- what an item touches is a branch that its pair may have

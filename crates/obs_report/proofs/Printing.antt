@@ -1,10 +1,11 @@
 -- Texts that are printed piece by piece.
 use Rattle.std.proofs.Common.{ℕ, ◌≡◌, ◌∙◌, ◌+◌, ap, sym, refl, subst, List, [], ◌++◌, length, arith, Option, Some, None, Result, Ok, Err, append_assoc, append-nil, length-append}
 use Rattle.std.specs.Prelude.{IsOk, OnErr}
-use Rattle.obs_io.specs.Bytes.{Writes, Wrote, WrotePart, and_then}
+use Rattle.obs_io.specs.Bytes.{Wrote, WrotePart, and_then}
+use Rattle.obs_io.specs.inner.Bytes.{Writes}
 use Rattle.obs_io.specs.Causes.{Rose, HasCause}
 use Rattle.obs_io.specs.declared.outside.Failed.{Failed}
-use Rattle.obs_report.specs.Printed.{AppendsAt, Buffered, FitsIn, HoldsSince, PrintsAt, empty_buffer}
+use Rattle.obs_report.specs.inner.Printed.{AppendsAt, Buffered, FitsIn, HoldsSince, PrintsAt, empty_buffer}
 
 pub and_then_none : (a : Option (List ℕ)) → and_then a [] ≡ a
 and_then_none None = refl

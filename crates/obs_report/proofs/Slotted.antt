@@ -5,9 +5,10 @@ use Rattle.std.proofs.Math.ListN.{drop_of_length-le}
 use Rattle.std.proofs.Math.Seq.{drop-cons}
 use Rattle.obs_case.specs.Tables.{Tables}
 use Rattle.obs_matroid.specs.Assignments.{Pair}
-use Rattle.obs_matroid.specs.Slots.{pairs_from}
+use Rattle.obs_matroid.specs.inner.Slots.{pairs_from}
 use Rattle.obs_placement.specs.declared.plans.Layer.{Layer}
-use Rattle.obs_report.specs.Placements.{AreCountsOf, layer_line, layers_text, listed_between}
+use Rattle.obs_report.specs.Placements.{layer_line, layers_text, listed_between}
+use Rattle.obs_report.specs.inner.Placements.{AreCountsOf}
 
 module _ (f : Pair → List ℕ) where
   slot_first : (m : ℕ) (s : Option ℕ) (slots : List (Option ℕ)) → flat_map f (pairs_from m (s ∷ [])) ++ flat_map f (pairs_from (suc m) slots) ≡ flat_map f (pairs_from m (s ∷ slots))

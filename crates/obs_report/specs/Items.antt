@@ -1,6 +1,6 @@
 -- The lines of items: the meters of a case and then its candidates, so that a meter is the item of its number.
-use Rattle.std.specs.Prelude.{◌≡◌, ℕ, ◌-◌, ◌<◌, true, false, List, [], ◌∷◌, codes, if◌then◌else◌, length, slice_index_or}
-use Rattle.obs_case.specs.Items.{angle_position, is_angle}
+use Rattle.std.specs.Prelude.{ℕ, ◌-◌, List, [], ◌∷◌, codes, if◌then◌else◌, length, slice_index_or}
+use Rattle.obs_case.specs.Items.{is_angle}
 use Rattle.obs_case.specs.Tables.{Tables, branch_names, candidate_names, meter_names}
 use Rattle.obs_matroid.specs.Assignments.{Pair}
 use Rattle.obs_network.specs.Network.{is_meter}
@@ -32,11 +32,6 @@ inside_line t m = line_of (codes "inside" ∷ item_word t m ∷ item_name t m �
 -- the word for the branch of an item's pair: `angle` for an angle item, else the branch's name
 abbrev pub branch_word : Tables → ℕ → ℕ → List ℕ
 branch_word t m e = if is_angle t m then codes "angle" else branch_name t e
-
--- a branch that an item's pair may have: of an angle item its angle branch, of another one a row of the branch table
-pub record IsBranchOf (t : Tables) (m e : ℕ) : Type 0 where
-  pub angle : is_angle t m ≡ true → e ≡ angle_position t m
-  pub row : is_angle t m ≡ false → e < length t.branches
 
 -- an item and the branch that it is given
 abbrev pub pair_line : Tables → Pair → List ℕ

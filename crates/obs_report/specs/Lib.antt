@@ -5,6 +5,6 @@ pub mod Items
 pub mod Meters
 pub mod Trees
 pub mod Islands
-pub mod Printed
 pub mod Placements
 pub mod Totals
+pub mod inner

@@ -1,5 +1,5 @@
 -- Lines of printed text: words with one tab between them, and a line feed at the end.
-use Rattle.std.specs.Prelude.{ℕ, Bool, List, [], ◌∷◌, ◌++◌, codes, decimal, if◌then◌else◌}
+use Rattle.std.specs.Prelude.{ℕ, List, [], ◌∷◌, ◌++◌, codes, decimal}
 
 -- the byte between two words, and the byte that ends a line
 abbrev pub tab : ℕ
@@ -17,18 +17,6 @@ tabbed (word ∷ words) = tab ∷ (word ++ tabbed words)
 abbrev pub line_of : List (List ℕ) → List ℕ
 line_of [] = line_feed ∷ []
 line_of (word ∷ words) = word ++ (tabbed words ++ (line_feed ∷ []))
-
--- a word of a line, with a tab before it where it isn't the first
-abbrev pub word_text : Bool → List ℕ → List ℕ
-word_text first word = if first then word else tab ∷ word
-
--- a number of a line
-abbrev pub number_text : ℕ → List ℕ
-number_text n = tab ∷ decimal n
-
--- the end of a line
-abbrev pub end_text : List ℕ
-end_text = line_feed ∷ []
 
 -- the line of a number of something
 abbrev pub count_line : List ℕ → ℕ → List ℕ

@@ -1,12 +1,8 @@
 -- The lines of placements: plans with their layers, and shortfalls.
-use Rattle.std.specs.Prelude.{ℕ, ◌≡◌, ◌-◌, ◌<◌, ◌≤◌, All, List, [], ◌∷◌, ◌++◌, Some, codes, decimal, drop, length, take}
+use Rattle.std.specs.Prelude.{ℕ, ◌-◌, List, [], ◌∷◌, ◌++◌, codes, decimal, drop, take}
 use Rattle.std.specs.List.{flat_map}
 use Rattle.obs_case.specs.Tables.{Tables}
 use Rattle.obs_matroid.specs.Assignments.{Pair}
-use Rattle.obs_matroid.specs.Lists.{In}
-use Rattle.obs_meter.specs.Touches.{touch_at}
-use Rattle.obs_assign.specs.Assignment.{Assignment, branch_at}
-use Rattle.obs_network.specs.Network.{case_branches, case_item_count, case_offered}
 use Rattle.obs_placement.specs.declared.plans.Layer.{Layer}
 use Rattle.obs_placement.specs.Placed.{ShortfallValue, Placed, PlanValue, cheapest, shortfall}
 use Rattle.obs_report.specs.Items.{candidate_name, inside_line, pair_line}
@@ -49,19 +45,3 @@ shortfall_text t b = shortfall_line b.rank b.outside ++ flat_map (inside_line t)
 abbrev pub placement_text : Tables → Placed → List Pair → List ℕ
 placement_text t (cheapest p) pairs = plan_text t p pairs
 placement_text t (shortfall b) pairs = shortfall_text t b
-
--- the counts of the layers don't fall, from u on, and none is above n
-abbrev pub AreCountsOf : ℕ → ℕ → List Layer → Type 0
-AreCountsOf n u [] = Unit {0}
-AreCountsOf n u (l ∷ ls) = (u ≤ l.upto) × (l.upto ≤ n) × AreCountsOf n l.upto ls
-
--- pairs of the items of a case: each item has its place, and is given a branch that it touches or none
-pub record ArePairsOf (t : Tables) (a : Assignment) : Type 0 where
-  pub items : length a.slots ≡ case_item_count t
-  pub touched : (m e : ℕ) → branch_at a m ≡ Some e → In e (touch_at (case_branches t) (case_offered t) m)
-
--- the positions of a placement are within a case: chosen candidates, listed items and the counts of layers
-abbrev pub IsWithin : Tables → Placed → Type 0
-IsWithin t (cheapest p) =
-    All (λ k. k < length t.candidates) p.chosen × All (λ m. m < case_item_count t) p.inside × AreCountsOf (length p.inside) 0 p.layers
-IsWithin t (shortfall b) = All (λ m. m < case_item_count t) b.inside

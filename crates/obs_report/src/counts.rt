@@ -1,8 +1,9 @@
 // The counts of a network, and the verdict.
 ghost use Rattle.std.specs.Prelude.{◌≡◌, length};
-ghost use Rattle.obs_meter.specs.Touches.{AreInRange, live_items};
+ghost use Rattle.obs_meter.specs.Touches.{live_items};
+ghost use Rattle.obs_meter.specs.inner.Touches.{AreInRange};
 ghost use Rattle.obs_report.specs.Counts.{counts_text, energised_buses, verdict_line, verdict_word};
-ghost use Rattle.obs_report.specs.Printed.{Appends, Prints};
+ghost use Rattle.obs_report.specs.inner.Printed.{Appends, Prints};
 
 use crate::line_buffer::LineBuffer;
 use crate::lines::print_count_line;

@@ -1,10 +1,11 @@
 // The lines on items: meters and then candidates.
 ghost use Rattle.std.specs.Prelude.{◌≡◌, ◌<◌, All, IfSome, [], ◌∷◌};
 ghost use Rattle.std.specs.List.{flat_map};
-ghost use Rattle.obs_matroid.specs.Slots.{pairs_from};
+ghost use Rattle.obs_matroid.specs.inner.Slots.{pairs_from};
 ghost use Rattle.obs_network.specs.Network.{case_item_count};
-ghost use Rattle.obs_report.specs.Items.{IsBranchOf, branch_word, inside_line, item_name, item_word, pair_line};
-ghost use Rattle.obs_report.specs.Printed.{Prints};
+ghost use Rattle.obs_report.specs.Items.{branch_word, inside_line, item_name, item_word, pair_line};
+ghost use Rattle.obs_report.specs.inner.Items.{IsBranchOf};
+ghost use Rattle.obs_report.specs.inner.Printed.{Prints};
 
 use crate::line_buffer::LineBuffer;
 use crate::names::{branch_name, candidate_name, meter_name};

@@ -1,8 +1,9 @@
 // Lines that are gathered before they go to a sink, so that few calls of the sink are made. A failure
 // is kept until the end: nothing is printed behind it.
 ghost use Rattle.std.specs.Prelude.{◌≡◌, ◌++◌, ◌+◌, ◌⊎◌, ◌≤◌, [], length, map, take};
-ghost use Rattle.obs_report.specs.Lines.{line_of, word_text};
-ghost use Rattle.obs_report.specs.Printed.{Prints, PrintsAt, empty_buffer};
+ghost use Rattle.obs_report.specs.Lines.{line_of};
+ghost use Rattle.obs_report.specs.inner.Lines.{word_text};
+ghost use Rattle.obs_report.specs.inner.Printed.{Prints, PrintsAt, empty_buffer};
 
 use obs_io::{Failed, Sink, write_all};
 use std::marker::Model;
@@ -20,7 +21,7 @@ pub struct LineBuffer {
 
 impl Model for LineBuffer {
     ghost use Rattle.std.specs.Prelude.{◌≡◌, ◌≤◌, length, take};
-    ghost use Rattle.obs_report.specs.Printed.{Buffered};
+    ghost use Rattle.obs_report.specs.inner.Printed.{Buffered};
 
     ghost Value = { Buffered };
 

@@ -1,6 +1,6 @@
 // Whole lines that stand in several answers.
 ghost use Rattle.obs_report.specs.Lines.{count_line, fault_line, last_line, ok_line, refused_line};
-ghost use Rattle.obs_report.specs.Printed.{Appends, Prints};
+ghost use Rattle.obs_report.specs.inner.Printed.{Appends, Prints};
 
 use crate::line_buffer::LineBuffer;
 use obs_io::{Failed, Sink, write_all};

@@ -2,7 +2,7 @@
 ghost use Rattle.std.specs.Prelude.{◌≡◌, ◌<◌, All, length};
 ghost use Rattle.obs_network.specs.Network.{network_of};
 ghost use Rattle.obs_report.specs.Meters.{bound_line, bound_text, critical_line, critical_text};
-ghost use Rattle.obs_report.specs.Printed.{Appends, Prints};
+ghost use Rattle.obs_report.specs.inner.Printed.{Appends, Prints};
 
 use crate::items::print_list;
 use crate::line_buffer::LineBuffer;

@@ -2,7 +2,7 @@
 ghost use Rattle.std.specs.Prelude.{◌≡◌, ◌<◌, length};
 ghost use Rattle.obs_network.specs.Switched.{case_buses, case_first_node};
 ghost use Rattle.obs_report.specs.Nodes.{node_line, node_lines};
-ghost use Rattle.obs_report.specs.Printed.{Appends, Prints};
+ghost use Rattle.obs_report.specs.inner.Printed.{Appends, Prints};
 
 use crate::line_buffer::LineBuffer;
 use crate::names::{first_of, node_name};

@@ -1,12 +1,13 @@
 // The lines on placements.
 ghost use Rattle.std.specs.Prelude.{◌<◌, ◌≤◌, ◌++◌, All, length};
 ghost use Rattle.std.specs.List.{flat_map};
-ghost use Rattle.obs_matroid.specs.Slots.{pairs_of};
-ghost use Rattle.obs_placement.specs.Placed.{placed_of};
+ghost use Rattle.obs_matroid.specs.inner.Slots.{pairs_of};
+ghost use Rattle.obs_placement.specs.inner.Placed.{placed_of};
 ghost use Rattle.obs_network.specs.Network.{case_item_count};
 ghost use Rattle.obs_report.specs.Items.{inside_line, pair_line};
-ghost use Rattle.obs_report.specs.Placements.{AreCountsOf, ArePairsOf, IsWithin, chosen_line, cost_line, layer_line, layers_text, listed_between, placement_text, plan_text, shortfall_line};
-ghost use Rattle.obs_report.specs.Printed.{Appends, Prints};
+ghost use Rattle.obs_report.specs.Placements.{chosen_line, cost_line, layer_line, layers_text, listed_between, placement_text, plan_text, shortfall_line};
+ghost use Rattle.obs_report.specs.inner.Placements.{AreCountsOf, ArePairsOf, IsWithin};
+ghost use Rattle.obs_report.specs.inner.Printed.{Appends, Prints};
 
 use crate::items::{print_list, print_pair};
 use crate::line_buffer::LineBuffer;

@@ -1,6 +1,6 @@
 // Lines of whole commands: what a certificate comes to, and what a generated case does.
 ghost use Rattle.obs_report.specs.Lines.{last_line};
-ghost use Rattle.obs_report.specs.Printed.{Appends, Prints};
+ghost use Rattle.obs_report.specs.inner.Printed.{Appends, Prints};
 ghost use Rattle.obs_report.specs.Totals.{flaw_line, total_line, totals_text, trial_line, valid_line};
 
 use crate::line_buffer::LineBuffer;

@@ -2,11 +2,11 @@
 ghost use Rattle.std.specs.Prelude.{◌≡◌, ◌<◌, All, [], ◌∷◌, length};
 ghost use Rattle.std.specs.List.{flat_map};
 ghost use Rattle.obs_case.specs.Tables.{IsValid};
-ghost use Rattle.obs_matroid.specs.Slots.{pairs_from, pairs_of};
-ghost use Rattle.obs_assign.specs.Assignment.{StandsOver, branch_at};
+ghost use Rattle.obs_matroid.specs.inner.Slots.{pairs_from, pairs_of};
+ghost use Rattle.obs_assign.specs.inner.Assignment.{StandsOver, branch_at};
 ghost use Rattle.obs_network.specs.Network.{case_meters, network_of};
 ghost use Rattle.obs_report.specs.Items.{pair_line};
-ghost use Rattle.obs_report.specs.Printed.{Appends, Prints};
+ghost use Rattle.obs_report.specs.inner.Printed.{Appends, Prints};
 ghost use Rattle.obs_report.specs.Trees.{tree_text};
 
 use crate::items::print_pair;

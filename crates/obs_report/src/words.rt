@@ -1,6 +1,6 @@
 // Words of a line, one call for each.
-ghost use Rattle.obs_report.specs.Lines.{end_text, number_text, word_text};
-ghost use Rattle.obs_report.specs.Printed.{Appends};
+ghost use Rattle.obs_report.specs.inner.Lines.{end_text, number_text, word_text};
+ghost use Rattle.obs_report.specs.inner.Printed.{Appends};
 
 use crate::line_buffer::LineBuffer;
 use obs_io::{Failed, Sink, write_all};

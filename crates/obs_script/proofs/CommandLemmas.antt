@@ -10,7 +10,8 @@ use Rattle.obs_script.specs.declared.command.Ask.{Ask}
 use Rattle.obs_script.specs.declared.command.Ask.TheVariants.{Status, Tree, Bound, Islands, Critical, Report, Place, Cert}
 use Rattle.obs_script.specs.declared.fault.LineFault.{LineFault}
 use Rattle.obs_script.specs.declared.fault.LineFault.TheVariants.{BadName, LineTooLong, UnknownCommand, WordMissing}
-use Rattle.obs_script.specs.Commands.{Said, opens, closes, trips, restores, loses, regains, asks, ask_of, ask_or_edit, ask_word, command_of, command_word, edit_of, edited_name, most_bytes, name_in, named, text_of, word_and_name, word_of}
+use Rattle.obs_script.specs.Commands.{Said, opens, closes, trips, restores, loses, regains, asks, ask_of, ask_or_edit, command_of, command_word, edit_of, most_bytes, name_in, named}
+use Rattle.obs_script.specs.inner.Commands.{ask_word, edited_name, text_of, word_and_name, word_of}
 
 -- what is chosen by the first of some words that a word is
 choice : {A : Type 0} (P : A → Type 0) (word own : List ℕ) (x : A) (others : Option A) (y : A)

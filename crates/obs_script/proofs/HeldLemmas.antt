@@ -2,7 +2,8 @@
 use Rattle.std.proofs.Common.{◌≡◌, ℕ, suc, ◌+◌, ◌-◌, ◌<◌, ◌≤◌, eqb, List, [], ◌∷◌, ◌++◌, length, take, get_or, None, refl, sym, ap, ◌∙◌, inl, inr, arith}
 use Rattle.std.proofs.lemmas.Bool.{cases_Bool, cases_lt, lt-leb}
 use Rattle.std.proofs.lemmas.List.{length-append, length-take, length-take-le, take_all, take-append-le}
-use Rattle.obs_script.specs.Gathered.{Holds, content_of, is_comment, is_passed, line_of, most_held}
+use Rattle.obs_script.specs.Gathered.{content_of, is_comment}
+use Rattle.obs_script.specs.inner.Gathered.{Holds, is_passed, line_of, most_held}
 
 -- a line has at most one byte more than its content
 pub length-content : (line : List ℕ) → length line ≤ length (content_of line) + 1

@@ -1,4 +1,3 @@
 pub mod Commands
-pub mod Faults
 pub mod Gathered
-pub mod Laws
+pub mod inner

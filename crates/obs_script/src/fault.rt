@@ -1,6 +1,6 @@
 // Why a line is no command.
 ghost use Rattle.std.specs.Prelude.{◌≡◌};
-ghost use Rattle.obs_script.specs.Faults.{line_fault_code, line_fault_name};
+ghost use Rattle.obs_script.specs.inner.Faults.{line_fault_code, line_fault_name};
 
 /// Why a line is no command, whatever the tables hold. Where several hold, `LineTooLong` is
 /// answered before `UnknownCommand`, this before `WordMissing`, and this before `BadName`.

@@ -3,7 +3,7 @@ ghost use Rattle.std.specs.Prelude.{◌≡◌, List, ℕ, []};
 ghost use Rattle.std.specs.Option.{option_copied};
 ghost use Rattle.std.specs.Str.Lines.{strip_carriage_return};
 ghost use Rattle.obs_text.specs.Lines.{is_feed};
-ghost use Rattle.obs_script.specs.Gathered.{Holds, fed, is_passed, line_of};
+ghost use Rattle.obs_script.specs.inner.Gathered.{Holds, fed, is_passed, line_of};
 
 use std::marker::Model;
 

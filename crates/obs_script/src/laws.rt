@@ -1,5 +1,5 @@
 //! What the definitions of this crate imply.
-ghost use Rattle.obs_script.specs.Laws.{CommandsAreTexts, HeldIsEnough, LinesAreGathered};
+ghost use Rattle.obs_script.specs.inner.Laws.{CommandsAreTexts, HeldIsEnough, LinesAreGathered};
 
 /// What is kept of a line says all that is answered of it: lines of which the same bytes are kept
 /// get the same answers.

@@ -1,6 +1,7 @@
 // A line's command.
 ghost use Rattle.std.specs.Prelude.{◌≡◌, Ok, Err, IfErr, IfOk};
-ghost use Rattle.obs_script.specs.Commands.{command_of, said_of};
+ghost use Rattle.obs_script.specs.Commands.{command_of};
+ghost use Rattle.obs_script.specs.inner.Commands.{said_of};
 
 use crate::command::Command;
 use crate::fault::LineFault;

@@ -1,7 +1,8 @@
 // The words of a line.
 ghost use Rattle.std.specs.Prelude.{◌≡◌};
 ghost use Rattle.std.specs.Option.{option_map};
-ghost use Rattle.obs_script.specs.Commands.{ask_of, command_word, edit_of, name_in, said_of};
+ghost use Rattle.obs_script.specs.Commands.{ask_of, command_word, edit_of, name_in};
+ghost use Rattle.obs_script.specs.inner.Commands.{said_of};
 
 use crate::command::{Ask, Command};
 

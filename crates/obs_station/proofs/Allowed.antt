@@ -7,8 +7,8 @@ use Rattle.obs_graph.specs.Positions.{sum_below}
 use Rattle.obs_matroid.proofs.Lists.{clash}
 use Rattle.obs_switch.specs.Groups.{items_with}
 use Rattle.obs_station.specs.declared.grouping.Grouping.{Grouping}
-use Rattle.obs_station.specs.Held.{Stations, has_any}
-use Rattle.obs_station.specs.Rounds.{AreRanked, allowance, allowed, rank_left}
+use Rattle.obs_station.specs.inner.Held.{Stations, has_any}
+use Rattle.obs_station.specs.inner.Rounds.{AreRanked, allowance, allowed, rank_left}
 
 -- sums of numbers that agree but at one place
 sum_put : (f g : ℕ → ℕ) (c n : ℕ) → c < n → ((k : ℕ) → k ≢ c → f k ≡ g k) → sum_below f n + g c ≡ sum_below g n + f c

@@ -5,8 +5,9 @@ use Rattle.std.proofs.lemmas.Bool.{cases_Bool, cases_lt, eq-eqb, eqb-true, ne_eq
 use Rattle.obs_graph.specs.declared.Ends.{Ends}
 use Rattle.obs_graph.specs.Graph.{Graph}
 use Rattle.obs_graph.specs.Positions.{AreBranches}
-use Rattle.obs_matroid.specs.Assignments.{IsAssignment, IsRho}
-use Rattle.obs_matroid.specs.Closed.{HoldsSources, IsClosed, every, none}
+use Rattle.obs_matroid.specs.Assignments.{IsAssignment}
+use Rattle.obs_matroid.specs.inner.Assignments.{IsRho}
+use Rattle.obs_matroid.specs.inner.Closed.{HoldsSources, IsClosed, every, none}
 use Rattle.obs_matroid.specs.Lists.{In, IsDistinct, other_than, without}
 use Rattle.obs_matroid.proofs.Closed.{IsClosed-union}
 use Rattle.obs_matroid.proofs.Comparing.{cases_Option}
@@ -18,21 +19,23 @@ use Rattle.obs_matroid.proofs.Pairs.{In-items}
 use Rattle.obs_matroid.proofs.Partners.{rho_less}
 use Rattle.obs_meter.specs.declared.Touch.{Touch}
 use Rattle.obs_meter.specs.Assignments.{rho_at}
-use Rattle.obs_meter.specs.Lost.{is_listed, left_of}
+use Rattle.obs_meter.specs.Lost.{is_listed}
+use Rattle.obs_meter.specs.inner.Lost.{left_of}
 use Rattle.obs_meter.specs.Spanned.{graph_matroid}
 use Rattle.obs_meter.specs.Touches.{is_live, live_items, touch_at}
 use Rattle.obs_meter.proofs.Assigned.{live_items-distinct, rho-from_matroid, rho_at-is, rho_at-unique}
 use Rattle.obs_meter.proofs.Instance.{IsMatroid-graph}
 use Rattle.obs_meter.proofs.Live.{In-live, live-from_live_items}
 use Rattle.obs_meter.proofs.Touched.{any-from_In, live-from_In}
-use Rattle.obs_assign.specs.Assignment.{Assignment, branch_at, is_frozen, pairs}
+use Rattle.obs_assign.specs.Assignment.{Assignment}
+use Rattle.obs_assign.specs.inner.Assignment.{branch_at, is_frozen, pairs}
 use Rattle.obs_exchange.specs.declared.Sources.TheVariants.{All}
-use Rattle.obs_exchange.specs.Closed.{IsClosedAt, IsLeastClosedAt, IsSource}
+use Rattle.obs_exchange.specs.inner.Closed.{IsClosedAt, IsLeastClosedAt, IsSource}
 use Rattle.obs_exchange.specs.Critical.{IsCriticalAt, critical_at}
-use Rattle.obs_exchange.specs.Longest.{IsLongest}
+use Rattle.obs_exchange.specs.inner.Longest.{IsLongest}
 use Rattle.obs_exchange.proofs.AtGraph.{IsAssignment-live, IsClosed-to_matroid, bare-from_out, out-from_bare}
 use Rattle.obs_exchange.proofs.Lawful.{IsCritical-from_matroid, IsCritical-to_matroid, closed_noncritical, critical_at-exactly}
-use Rattle.obs_station.specs.Rounds.{is_bare, lacks}
+use Rattle.obs_station.specs.inner.Rounds.{is_bare, lacks}
 use Rattle.obs_station.proofs.Grouped.{both_filters}
 
 -- a meter without a pair

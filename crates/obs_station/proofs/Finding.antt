@@ -10,22 +10,23 @@ use Rattle.obs_graph.specs.Positions.{AreBranches}
 use Rattle.obs_switch.specs.Buses.{members_of}
 use Rattle.obs_case.specs.Tables.{IsValid, Tables}
 use Rattle.obs_matroid.proofs.Lists.{clash}
-use Rattle.obs_switch.specs.Groups.{group_start}
+use Rattle.obs_switch.specs.inner.Groups.{group_start}
 use Rattle.obs_meter.specs.declared.Touch.{Touch}
 use Rattle.obs_meter.specs.Held.{Meters}
-use Rattle.obs_meter.specs.Sizes.{HasRoomFor, Sizes}
-use Rattle.obs_meter.specs.Touches.{AreInRange, is_live}
+use Rattle.obs_meter.specs.inner.Sizes.{HasRoomFor, Sizes}
+use Rattle.obs_meter.specs.Touches.{is_live}
+use Rattle.obs_meter.specs.inner.Touches.{AreInRange}
 use Rattle.obs_assign.specs.Assignment.{Assignment}
-use Rattle.obs_exchange.specs.Longest.{IsLongest}
-use Rattle.obs_kept.specs.Kept.{AreLongest}
+use Rattle.obs_exchange.specs.inner.Longest.{IsLongest}
+use Rattle.obs_kept.specs.inner.Kept.{AreLongest}
 use Rattle.obs_network.specs.Network.{Rows, case_branches, case_meters, network_of, rows_of}
 use Rattle.obs_network.specs.Observable.{case_live_meters}
 use Rattle.obs_network.proofs.OfCase.{case_position_count-le, case_vertex_count-le, length-case_branches, length-case_meters}
 use Rattle.obs_station.specs.declared.losses.Loss.{Loss}
 use Rattle.obs_station.specs.declared.grouping.Grouping.{Grouping}
 use Rattle.obs_station.specs.declared.room.Room.{Room}
-use Rattle.obs_station.specs.Held.{AreStationed, Stations, station_key, station_keys, losses_in}
-use Rattle.obs_station.specs.Going.{MayLoseStation}
+use Rattle.obs_station.specs.inner.Held.{AreStationed, Stations, station_key, station_keys, losses_in}
+use Rattle.obs_station.specs.inner.Going.{MayLoseStation}
 use Rattle.obs_station.specs.Stations.{case_station_count, case_stations, losses_of, meter_stations}
 use Rattle.obs_station.proofs.Grouped.{losses-are}
 use Rattle.obs_station.proofs.Stationed.{length-meter_stations, some_node, stations-below}

@@ -5,8 +5,8 @@ use Rattle.obs_assign.specs.Assignment.{Assignment}
 use Rattle.obs_exchange.proofs.Lengthening.{room_again, rooms}
 use Rattle.obs_station.specs.declared.grouping.Grouping.{Grouping}
 use Rattle.obs_station.specs.declared.room.Room.{Room}
-use Rattle.obs_station.specs.Going.{AreKnown, GoesOn, MayLoseStation, HasSettled}
-use Rattle.obs_station.specs.Rounds.{Rounds}
+use Rattle.obs_station.specs.inner.Going.{AreKnown, GoesOn, MayLoseStation, HasSettled}
+use Rattle.obs_station.specs.inner.Rounds.{Rounds}
 
 -- where the pairs are as they were
 pub goes_nowhere : {y : Grouping} {a : Assignment} {r q : Room} {s t : ℕ} → MayLoseStation y a r → q.left ≡ r.left → q.exchange.sizes ≡ r.exchange.sizes → s ≤ t → GoesOn y a a r q s t

@@ -13,7 +13,8 @@ use Rattle.obs_matroid.proofs.Lists.{In-filter, In-filter_from, clash, filter_sa
 use Rattle.obs_matroid.proofs.Ranges.{below_from}
 use Rattle.obs_meter.specs.declared.Touch.{Touch}
 use Rattle.obs_meter.specs.Assignments.{rho_at}
-use Rattle.obs_meter.specs.Lost.{is_listed, left_of}
+use Rattle.obs_meter.specs.Lost.{is_listed}
+use Rattle.obs_meter.specs.inner.Lost.{left_of}
 use Rattle.obs_meter.specs.Touches.{is_live, live_items}
 use Rattle.obs_meter.proofs.Touched.{In-from_any, any-from_In}
 use Rattle.obs_switch.specs.Buses.{members_of}
@@ -22,7 +23,7 @@ use Rattle.obs_network.specs.Network.{case_branches, case_meters, network_of}
 use Rattle.obs_network.specs.Observable.{case_live_meters, rank_of_meters}
 use Rattle.obs_network.proofs.OfCase.{length-case_meters}
 use Rattle.obs_station.specs.declared.losses.Loss.{Loss}
-use Rattle.obs_station.specs.Held.{Stations, has_any, station_key, station_keys, loss_in, losses_in}
+use Rattle.obs_station.specs.inner.Held.{Stations, has_any, station_key, station_keys, loss_in, losses_in}
 use Rattle.obs_station.specs.Stations.{case_station_count, case_stations, has_live, is_at, loss_of, loss_stations, losses_of, meter_stations, other_meters, station_meters, station_node}
 
 -- a filter after another is one of both tests

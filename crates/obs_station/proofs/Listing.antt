@@ -6,7 +6,7 @@ use Rattle.obs_graph.specs.Graph.{Graph}
 use Rattle.obs_matroid.proofs.Ranges.{later, later_listed, later_over}
 use Rattle.obs_meter.specs.declared.Touch.{Touch}
 use Rattle.obs_station.specs.declared.losses.Loss.{Loss}
-use Rattle.obs_station.specs.Held.{Stations, has_any, loss_in, losses_in}
+use Rattle.obs_station.specs.inner.Held.{Stations, has_any, loss_in, losses_in}
 
 module _ (g : Graph) (touches : List Touch) (s : Stations) (n : ℕ) where
   -- of the stations below c those with a live meter have their entries

@@ -8,7 +8,7 @@ use Rattle.obs_matroid.proofs.Lists.{In_same}
 use Rattle.obs_meter.specs.declared.Touch.{Touch}
 use Rattle.obs_meter.specs.Touches.{is_live}
 use Rattle.obs_switch.specs.Groups.{items_with}
-use Rattle.obs_station.specs.Held.{AreStationed, Stations}
+use Rattle.obs_station.specs.inner.Held.{AreStationed, Stations}
 
 module _ (test : ℕ → Bool) where
   -- what stands in the list passes

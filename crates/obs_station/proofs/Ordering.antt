@@ -3,10 +3,10 @@ use Rattle.std.proofs.Common.{◌≡◌, ℕ, zero, suc, ◌+◌, ◌-◌, ◌<�
 use Rattle.std.proofs.lemmas.Bool.{cases_lt}
 use Rattle.std.proofs.lemmas.List.{get_or-take, length-take-le}
 use Rattle.obs_matroid.specs.Lists.{In}
-use Rattle.obs_switch.specs.Groups.{AreGroups, group_start}
+use Rattle.obs_switch.specs.inner.Groups.{AreGroups, group_start}
 use Rattle.obs_switch.proofs.Grouping.{group_start-le}
-use Rattle.obs_exchange.specs.Ordered.{IsOrder}
-use Rattle.obs_station.specs.Rounds.{IsBackward, IsByStation}
+use Rattle.obs_exchange.specs.inner.Ordered.{IsOrder}
+use Rattle.obs_station.specs.inner.Rounds.{IsBackward, IsByStation}
 use Rattle.obs_station.proofs.Members.{member-at, member-low}
 
 -- what stands in a slice stands at a place of it

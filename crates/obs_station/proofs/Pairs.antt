@@ -9,7 +9,8 @@ use Rattle.obs_matroid.proofs.Lists.{In-append_left, In-append_right, In-filter,
 use Rattle.obs_matroid.proofs.Slots.{IsDistinct-slots}
 use Rattle.obs_meter.specs.Lost.{is_listed}
 use Rattle.obs_meter.proofs.Touched.{In-from_any}
-use Rattle.obs_assign.specs.Assignment.{Assignment, branch_at, pairs}
+use Rattle.obs_assign.specs.Assignment.{Assignment}
+use Rattle.obs_assign.specs.inner.Assignment.{branch_at, pairs}
 use Rattle.obs_assign.proofs.Slotted.{item_slot, slot_item}
 use Rattle.obs_exchange.proofs.AtGraph.{out-from_bare}
 

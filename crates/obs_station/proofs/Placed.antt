@@ -5,17 +5,19 @@ use Rattle.std.proofs.lemmas.Bool.{cases_eq, cases_lt, le-ltb, or_left, or_right
 use Rattle.obs_graph.specs.Graph.{Graph}
 use Rattle.obs_matroid.specs.Lists.{In}
 use Rattle.obs_matroid.proofs.Lists.{clash, filter_same, length-split}
-use Rattle.obs_switch.specs.Groups.{group_start, items_with}
+use Rattle.obs_switch.specs.Groups.{items_with}
+use Rattle.obs_switch.specs.inner.Groups.{group_start}
 use Rattle.obs_meter.specs.declared.Touch.{Touch}
 use Rattle.obs_meter.proofs.Live.{live_low}
 use Rattle.obs_meter.proofs.Touched.{any-from_In}
-use Rattle.obs_assign.specs.Assignment.{Assignment, branch_at, pairs}
+use Rattle.obs_assign.specs.Assignment.{Assignment}
+use Rattle.obs_assign.specs.inner.Assignment.{branch_at, pairs}
 use Rattle.obs_exchange.specs.declared.Sources.TheVariants.{All}
-use Rattle.obs_exchange.specs.Closed.{IsLeastClosedAt, IsSource}
-use Rattle.obs_exchange.specs.Ordered.{reached_before}
+use Rattle.obs_exchange.specs.inner.Closed.{IsLeastClosedAt, IsSource}
+use Rattle.obs_exchange.specs.inner.Ordered.{reached_before}
 use Rattle.obs_station.specs.declared.grouping.Grouping.{Grouping}
-use Rattle.obs_station.specs.Held.{Stations}
-use Rattle.obs_station.specs.Rounds.{AreGrouped, HasLongest, AreReached, IsByStation, CostNothing, is_bare, lacks, rank_left}
+use Rattle.obs_station.specs.inner.Held.{Stations}
+use Rattle.obs_station.specs.inner.Rounds.{AreGrouped, HasLongest, AreReached, IsByStation, CostNothing, is_bare, lacks, rank_left}
 use Rattle.obs_station.proofs.Falling.{few_settled, own_settled}
 use Rattle.obs_station.proofs.Members.{member-at, members-distinct, members-live}
 use Rattle.obs_station.proofs.Ordering.{starts_rise}

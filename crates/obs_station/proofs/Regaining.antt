@@ -6,18 +6,21 @@ use Rattle.obs_matroid.proofs.Lists.{IsDistinct-filter}
 use Rattle.obs_meter.specs.declared.Touch.{Touch}
 use Rattle.obs_meter.specs.Assignments.{rho_at}
 use Rattle.obs_meter.specs.Held.{Meters}
-use Rattle.obs_meter.specs.Lost.{is_listed, left_of, losing}
-use Rattle.obs_meter.specs.Sizes.{HasRoomFor}
-use Rattle.obs_meter.specs.Touches.{AreInRange, live_items}
+use Rattle.obs_meter.specs.Lost.{is_listed, losing}
+use Rattle.obs_meter.specs.inner.Lost.{left_of}
+use Rattle.obs_meter.specs.inner.Sizes.{HasRoomFor}
+use Rattle.obs_meter.specs.Touches.{live_items}
+use Rattle.obs_meter.specs.inner.Touches.{AreInRange}
 use Rattle.obs_meter.proofs.Assigned.{live_items-distinct, rho_at-is, rho_at-unique}
 use Rattle.obs_meter.proofs.Lost.{in_range-losing, length-losing, losing-none, room-losing}
-use Rattle.obs_assign.specs.Assignment.{Assignment, pairs}
-use Rattle.obs_exchange.specs.Found.{Work}
-use Rattle.obs_exchange.specs.Longest.{IsLongest, IsMost}
+use Rattle.obs_assign.specs.Assignment.{Assignment}
+use Rattle.obs_assign.specs.inner.Assignment.{pairs}
+use Rattle.obs_exchange.specs.inner.Found.{Work}
+use Rattle.obs_exchange.specs.inner.Longest.{IsLongest, IsMost}
 use Rattle.obs_exchange.proofs.Losing.{most-left, most-longest, rho-live_left}
 use Rattle.obs_station.specs.declared.grouping.Grouping.{Grouping}
 use Rattle.obs_station.specs.declared.room.Room.{Room}
-use Rattle.obs_station.specs.Going.{MayLoseStation}
+use Rattle.obs_station.specs.inner.Going.{MayLoseStation}
 
 -- what the meters touch once some are lost
 pub left_is : (list : List ℕ) (before after : Meters) (touches : List Touch) → before.touches ≡ touches → after ≡ record before { touches = losing (is_listed list) before.touches }

@@ -6,9 +6,9 @@ use Rattle.obs_switch.specs.Groups.{items_with}
 use Rattle.obs_assign.specs.Assignment.{Assignment}
 use Rattle.obs_station.specs.declared.grouping.Grouping.{Grouping}
 use Rattle.obs_station.specs.declared.room.Room.{Room}
-use Rattle.obs_station.specs.Going.{AreKnown, GoesOn, HasSettled}
-use Rattle.obs_station.specs.Held.{has_any}
-use Rattle.obs_station.specs.Rounds.{AreRanked, Rounds, allowance, rank_left}
+use Rattle.obs_station.specs.inner.Going.{AreKnown, GoesOn, HasSettled}
+use Rattle.obs_station.specs.inner.Held.{has_any}
+use Rattle.obs_station.specs.inner.Rounds.{AreRanked, Rounds, allowance, rank_left}
 use Rattle.obs_station.proofs.Allowed.{allowance-put, ranked-put}
 use Rattle.obs_station.proofs.Placed.{same_item}
 

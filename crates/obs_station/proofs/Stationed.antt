@@ -14,7 +14,8 @@ use Rattle.obs_matroid.specs.Lists.{In}
 use Rattle.obs_matroid.proofs.Lists.{In-filter, In-filter_from}
 use Rattle.obs_matroid.proofs.Ranges.{below_from, below_in}
 use Rattle.obs_meter.specs.Touches.{every_item, is_live}
-use Rattle.obs_switch.specs.Buses.{AreOneBus, LinksBelow, members_of}
+use Rattle.obs_switch.specs.Buses.{AreOneBus, members_of}
+use Rattle.obs_switch.specs.inner.Buses.{LinksBelow}
 use Rattle.obs_switch.proofs.FirstNodes.{bus_at, bus_of-below, buses_of-at, first_member, one_bus}
 use Rattle.obs_network.specs.Network.{case_branches, case_meters}
 use Rattle.obs_network.specs.Observable.{case_live_meters}

@@ -9,12 +9,13 @@ use Rattle.obs_graph.proofs.AtVertex.{positions_from-pass}
 use Rattle.obs_graph.proofs.FlatParts.{cond-one, length-positions_from, passing_start-cons, sum_below-zero}
 use Rattle.obs_case.specs.Tables.{Tables}
 use Rattle.obs_meter.specs.Touches.{is_live}
-use Rattle.obs_switch.specs.Groups.{group_start, items_with}
+use Rattle.obs_switch.specs.Groups.{items_with}
+use Rattle.obs_switch.specs.inner.Groups.{group_start}
 use Rattle.obs_switch.proofs.Grouping.{group_start-le, has_key}
 use Rattle.obs_network.specs.Network.{case_branches, case_meters}
 use Rattle.obs_network.specs.Observable.{case_live_meters}
 use Rattle.obs_network.proofs.OfCase.{length-case_meters}
-use Rattle.obs_station.specs.Held.{station_key, station_keys}
+use Rattle.obs_station.specs.inner.Held.{station_key, station_keys}
 use Rattle.obs_station.specs.Stations.{case_station_count}
 
 -- one key has the item b, or none below n

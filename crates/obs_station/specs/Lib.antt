@@ -1,5 +1,2 @@
 pub mod Stations
-pub mod Held
-pub mod Lending
-pub mod Going
-pub mod Rounds
+pub mod inner

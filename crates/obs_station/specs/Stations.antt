@@ -10,7 +10,6 @@ use Rattle.obs_case.specs.declared.rows.Switch.{Switch}
 use Rattle.obs_case.specs.Tables.{Tables}
 use Rattle.obs_switch.specs.declared.link.Link.{Link}
 use Rattle.obs_switch.specs.Buses.{bus_count, buses_of, members_of}
-use Rattle.obs_network.specs.Network.{Rows}
 use Rattle.obs_network.specs.Observable.{case_live_meters, rank_of_meters}
 use Rattle.obs_station.specs.declared.losses.Loss.{Loss}
 
@@ -72,8 +71,3 @@ loss_stations t = filter (has_live t) (range_with_len 0 (case_station_count t))
 -- the loss list of a case
 unfoldable pub losses_of : Tables → List Loss
 losses_of t = map (loss_of t) (loss_stations t)
-
--- what a work value is seen as: the numbers of rows that it was made for, and the list that was found last
-pub record StationWork : Type 0 where
-  pub rows : Rows
-  pub found : List Loss

@@ -3,8 +3,8 @@ ghost use Rattle.std.specs.Borrow.{sem};
 ghost use Rattle.std.specs.Prelude.{◌≡◌, ◌+◌, ◌≤◌, [], IfOk, length};
 ghost use Rattle.obs_network.specs.Network.{network_of, rows_of};
 ghost use Rattle.obs_network.specs.Observable.{case_live_meters};
-ghost use Rattle.obs_assign.specs.Assignment.{HasRoomOf};
-ghost use Rattle.obs_kept.specs.Kept.{AreLongest};
+ghost use Rattle.obs_assign.specs.inner.Assignment.{HasRoomOf};
+ghost use Rattle.obs_kept.specs.inner.Kept.{AreLongest};
 ghost use Rattle.obs_station.specs.Stations.{losses_of};
 
 use crate::grouping::Grouping;
@@ -53,7 +53,7 @@ pub struct StationWork {
 
 impl Model for StationWork {
     ghost use Rattle.std.specs.Prelude.{◌≡◌, ◌≤◌, ◌+◌, ◌*◌, length, take};
-    ghost use Rattle.obs_station.specs.Stations.{StationWork};
+    ghost use Rattle.obs_station.specs.inner.Stations.{StationWork};
 
     ghost Value = { StationWork };
 
@@ -100,7 +100,7 @@ impl Drop for StationWork {
 }
 
 impl StationWork {
-    ghost use Rattle.obs_station.specs.Lending.{WorkGivenBack};
+    ghost use Rattle.obs_station.specs.inner.Lending.{WorkGivenBack};
 
     /// Room for the losses of a case's stations, and of any case with as many rows in each table.
     pub fn make(alloc: Global, case: &Case) -> Result<StationWork, NoMemory>

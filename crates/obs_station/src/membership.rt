@@ -1,8 +1,8 @@
 // To which station each meter belongs.
 ghost use Rattle.std.specs.Prelude.{◌≡◌, ◌+◌, ◌<◌, ◌≤◌, ◌^◌, ℕ, suc, length, slice_index};
 ghost use Rattle.obs_case.specs.Tables.{places};
-ghost use Rattle.obs_switch.specs.Groups.{AreGroups};
-ghost use Rattle.obs_station.specs.Held.{station_key};
+ghost use Rattle.obs_switch.specs.inner.Groups.{AreGroups};
+ghost use Rattle.obs_station.specs.inner.Held.{station_key};
 ghost use Rattle.obs_station.specs.Stations.{all_links, case_station_count, case_stations, meter_stations, place_node};
 
 use obs_case::{Case, Kind, Switch};

@@ -1,10 +1,10 @@
 // What is known of the stations while they are settled many at once.
 ghost use Rattle.std.specs.Prelude.{◌≡◌, ◌+◌, ◌<◌, ◌≤◌, if◌then◌else◌, ℕ, IfNone, IfOk, IfSome, None, Some, true, length, slice_index, slice_index_or, slice_set, take};
-ghost use Rattle.obs_meter.specs.Sizes.{HasRoomFor};
+ghost use Rattle.obs_meter.specs.inner.Sizes.{HasRoomFor};
 ghost use Rattle.obs_exchange.specs.declared.Sources.TheVariants.{All as AllSources};
-ghost use Rattle.obs_exchange.specs.Closed.{IsSource};
-ghost use Rattle.obs_station.specs.Going.{AreKnown, HasPlaces, IsAsLarge, NoneVacant};
-ghost use Rattle.obs_station.specs.Rounds.{HasLongest, AreRanked, AreReached, IsBackward, allowance};
+ghost use Rattle.obs_exchange.specs.inner.Closed.{IsSource};
+ghost use Rattle.obs_station.specs.inner.Going.{AreKnown, HasPlaces, IsAsLarge, NoneVacant};
+ghost use Rattle.obs_station.specs.inner.Rounds.{HasLongest, AreRanked, AreReached, IsBackward, allowance};
 
 use crate::draw::draw;
 use crate::grouping::Grouping;
@@ -33,7 +33,7 @@ pub(crate) struct Rounds {
 
 impl Model for Rounds {
     ghost use Rattle.std.specs.Prelude.{◌≡◌, length};
-    ghost use Rattle.obs_station.specs.Rounds.{Rounds};
+    ghost use Rattle.obs_station.specs.inner.Rounds.{Rounds};
 
     ghost Value = { Rounds };
 

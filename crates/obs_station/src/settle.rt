@@ -1,7 +1,7 @@
 // Stations settled many at once, in rounds.
 ghost use Rattle.std.specs.Prelude.{◌≡◌, ◌+◌, ◌≤◌, if◌then◌else◌, false};
-ghost use Rattle.obs_station.specs.Going.{AreKnown, GoesOn, HasPlaces, IsAsLarge, MayLoseStation, HasSettled, NoneVacant};
-ghost use Rattle.obs_station.specs.Rounds.{allowance};
+ghost use Rattle.obs_station.specs.inner.Going.{AreKnown, GoesOn, HasPlaces, IsAsLarge, MayLoseStation, HasSettled, NoneVacant};
+ghost use Rattle.obs_station.specs.inner.Rounds.{allowance};
 
 use crate::grouping::Grouping;
 use crate::room::Room;

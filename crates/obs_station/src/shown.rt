@@ -1,7 +1,7 @@
 // The rank without a station's meters, where it shows from which places these are reached.
 ghost use Rattle.std.specs.Prelude.{◌≡◌, ◌<◌, ◌^◌, All, IfSome, filter, length, nat_lt, slice_index, true};
-ghost use Rattle.obs_station.specs.Held.{has_any};
-ghost use Rattle.obs_station.specs.Rounds.{AreOwn, HasLongest, AreReached, CostNothing, is_bare, rank_left};
+ghost use Rattle.obs_station.specs.inner.Held.{has_any};
+ghost use Rattle.obs_station.specs.inner.Rounds.{AreOwn, HasLongest, AreReached, CostNothing, is_bare, rank_left};
 
 use crate::grouping::Grouping;
 use crate::reach::Reach;

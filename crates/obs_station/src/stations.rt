@@ -1,9 +1,10 @@
 // The stations of a case, and the live meters of each.
 ghost use Rattle.std.specs.Prelude.{◌≡◌, ◌<◌, ◌≤◌, ◌^◌, [], All, IfOk, length, slice_index};
 ghost use Rattle.obs_switch.specs.Buses.{members_of};
-ghost use Rattle.obs_switch.specs.Groups.{group_start, items_with};
-ghost use Rattle.obs_station.specs.Held.{has_any, station_keys};
-ghost use Rattle.obs_station.specs.Rounds.{IsByStation};
+ghost use Rattle.obs_switch.specs.Groups.{items_with};
+ghost use Rattle.obs_switch.specs.inner.Groups.{group_start};
+ghost use Rattle.obs_station.specs.inner.Held.{has_any, station_keys};
+ghost use Rattle.obs_station.specs.inner.Rounds.{IsByStation};
 ghost use Rattle.obs_station.specs.Stations.{case_station_count, case_stations};
 
 use crate::membership::{write_links, write_members};
@@ -32,7 +33,7 @@ pub(crate) struct Stations {
 
 impl Model for Stations {
     ghost use Rattle.std.specs.Prelude.{length, take};
-    ghost use Rattle.obs_station.specs.Held.{AreListed, Stations};
+    ghost use Rattle.obs_station.specs.inner.Held.{AreListed, Stations};
 
     ghost Value = { Stations };
 

@@ -1,15 +1,17 @@
 // The pairs without the meters of a station.
 ghost use Rattle.std.specs.Prelude.{◌≡◌, ◌+◌, ◌<◌, ◌≤◌, All, IfSome, None, ℕ, length, take};
 ghost use Rattle.std.specs.List.{range_with_len};
-ghost use Rattle.obs_switch.specs.Groups.{group_start, items_with};
+ghost use Rattle.obs_switch.specs.Groups.{items_with};
+ghost use Rattle.obs_switch.specs.inner.Groups.{group_start};
 ghost use Rattle.obs_meter.specs.Assignments.{rho_at};
-ghost use Rattle.obs_meter.specs.Lost.{is_listed, left_of};
+ghost use Rattle.obs_meter.specs.Lost.{is_listed};
+ghost use Rattle.obs_meter.specs.inner.Lost.{left_of};
 ghost use Rattle.obs_meter.specs.Touches.{live_items};
 ghost use Rattle.obs_matroid.specs.Lists.{In};
-ghost use Rattle.obs_assign.specs.Assignment.{branch_at};
-ghost use Rattle.obs_station.specs.Going.{GoesOn, HasPlaces, IsAsLarge, MayLoseStation};
-ghost use Rattle.obs_station.specs.Held.{losses_in};
-ghost use Rattle.obs_station.specs.Rounds.{allowed, rank_left};
+ghost use Rattle.obs_assign.specs.inner.Assignment.{branch_at};
+ghost use Rattle.obs_station.specs.inner.Going.{GoesOn, HasPlaces, IsAsLarge, MayLoseStation};
+ghost use Rattle.obs_station.specs.inner.Held.{losses_in};
+ghost use Rattle.obs_station.specs.inner.Rounds.{allowed, rank_left};
 
 use crate::grouping::Grouping;
 use crate::losses::Loss;

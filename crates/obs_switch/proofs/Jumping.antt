@@ -5,7 +5,7 @@ use Rattle.std.proofs.lemmas.List.{get_or-set_same, get_or-set_other, length-set
 use Rattle.std.proofs.lemmas.List.Sums.{sum_by-set}
 use Rattle.obs_switch.specs.declared.link.Link.{Link}
 use Rattle.obs_switch.specs.Buses.{first_node}
-use Rattle.obs_switch.specs.Labels.{AreLabels, AreLowered}
+use Rattle.obs_switch.specs.inner.Labels.{AreLabels, AreLowered}
 use Rattle.obs_switch.proofs.Lowering.{lowered_more}
 
 -- one label is lowered to a node of its bus

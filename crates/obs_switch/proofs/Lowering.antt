@@ -7,7 +7,7 @@ use Rattle.obs_graph.specs.declared.Ends.{Ends}
 use Rattle.obs_graph.proofs.Chains.{Chain-first, same_from_Chain}
 use Rattle.obs_switch.specs.declared.link.Link.{Link}
 use Rattle.obs_switch.specs.Buses.{ends_of_link, ends_of_links, first_node}
-use Rattle.obs_switch.specs.Labels.{AreLabels, AreSettled, AreLowered}
+use Rattle.obs_switch.specs.inner.Labels.{AreLabels, AreSettled, AreLowered}
 use Rattle.obs_switch.proofs.FirstNodes.{first_node-le, first_node-first_node}
 
 -- a label more is lowered

@@ -5,14 +5,16 @@ use Rattle.std.proofs.lemmas.Bool.{cases_eq}
 use Rattle.std.proofs.lemmas.Bool.Decides.{nat_tests}
 use Rattle.std.proofs.lemmas.List.Elements.{Contains-append_right}
 use Rattle.obs_graph.specs.declared.Ends.{Ends}
-use Rattle.obs_graph.specs.Joined.{count_below, first_joined, merged, glue, IsMerging}
+use Rattle.obs_graph.specs.Joined.{count_below, first_joined, merged}
+use Rattle.obs_graph.specs.inner.Joined.{glue, IsMerging}
 use Rattle.obs_graph.proofs.Chains.{Contains-here, first_joined-contains}
 use Rattle.obs_graph.proofs.Counts.{count_below-agree}
 use Rattle.obs_graph.proofs.First.{first_joined-le, first_joined-first_joined, merged-same}
 use Rattle.obs_graph.proofs.Forests.{among_front, among_others, same_first-among}
 use Rattle.obs_graph.proofs.Shapes.{glue_st}
 use Rattle.obs_switch.specs.declared.link.Link.{Link}
-use Rattle.obs_switch.specs.Buses.{bus_count, bus_of, bus_under, buses_of, ends_of_link, ends_of_links, first_node, is_first_node}
+use Rattle.obs_switch.specs.Buses.{bus_count, bus_of, buses_of, ends_of_link, ends_of_links, first_node, is_first_node}
+use Rattle.obs_switch.specs.inner.Buses.{bus_under}
 use Rattle.obs_switch.proofs.FirstNodes.{bus_at, bus_of-below, first_member, same_first-from_same_bus}
 
 -- two numbers are one after a merging where they were, or where they are the two that are merged

@@ -2,7 +2,7 @@
 use Rattle.std.proofs.Common.{◌≡◌, ℕ, ◌≤◌, List, ◌++◌, length, take, ◌∙◌, subst}
 use Rattle.std.proofs.Math.Seq.{take-append_seam}
 use Rattle.std.proofs.lemmas.List.{length-take-le}
-use Rattle.obs_switch.specs.Held.{AreHeld}
+use Rattle.obs_switch.specs.inner.Held.{AreHeld}
 
 -- the arrays that were written are those that are held
 pub AreHeld-written : (nodes count : ℕ) (firsts numbers members starts firsts' numbers' members' starts' : List ℕ) → firsts' ≡ firsts → numbers' ≡ numbers → members' ≡ members → starts' ≡ starts

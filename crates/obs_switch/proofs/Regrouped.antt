@@ -5,7 +5,7 @@ use Rattle.std.proofs.Math.Seq.{take-append_seam}
 use Rattle.std.proofs.lemmas.Bool.{cases_lt}
 use Rattle.std.proofs.lemmas.List.Sums.{count_by-le-length}
 use Rattle.std.proofs.lemmas.List.{append_assoc, set_split, set-get_or, length-take-le, take-append-drop}
-use Rattle.obs_switch.specs.Groups.{AreGroups, group_start}
+use Rattle.obs_switch.specs.inner.Groups.{AreGroups, group_start}
 use Rattle.obs_switch.proofs.Grouping.{group_start-le}
 use Rattle.obs_switch.proofs.Regrouping.{IsMovedBack, between-as, flat, group-from_flat, high-as, length-flat, low-as, moved-as, take-flat}
 

@@ -6,7 +6,8 @@ use Rattle.std.proofs.lemmas.Bool.{cases_Bool, cases_eq, cond-true, cond-false, 
 use Rattle.std.proofs.lemmas.List.{append_assoc, append-nil, take-append-drop}
 use Rattle.obs_graph.specs.Positions.{positions_from}
 use Rattle.obs_graph.proofs.FlatParts.{length-positions_from}
-use Rattle.obs_switch.specs.Groups.{group_start, items_with}
+use Rattle.obs_switch.specs.Groups.{items_with}
+use Rattle.obs_switch.specs.inner.Groups.{group_start}
 
 -- the groups of so many keys, one after another
 abbrev pub flat : List ℕ → ℕ → List ℕ

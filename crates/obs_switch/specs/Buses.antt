@@ -1,5 +1,5 @@
 -- Buses: what closed switches join.
-use Rattle.std.specs.Prelude.{ℕ, ◌<◌, ◌==◌, Bool, List, All, map, slice_index}
+use Rattle.std.specs.Prelude.{ℕ, ◌==◌, Bool, List, map}
 use Rattle.std.specs.List.{range_with_len}
 use Rattle.obs_graph.specs.declared.Ends.{Ends}
 use Rattle.obs_graph.specs.Joined.{Chain, count_below, first_joined}
@@ -40,11 +40,3 @@ bus_count nodes links = count_below (is_first_node links) nodes
 -- the nodes of a bus, rising, where these are the buses of the nodes
 abbrev pub members_of : List ℕ → ℕ → List ℕ
 members_of buses bus = items_with buses bus
-
--- the bus, under other links, of the first node of a bus
-abbrev pub bus_under : ℕ → List Link → List Link → ℕ → ℕ
-bus_under nodes links other bus = bus_of other (slice_index (members_of (buses_of nodes links) bus) 0)
-
--- both ends of each link are below a number of nodes
-abbrev pub LinksBelow : ℕ → List Link → Type 0
-LinksBelow nodes links = All (λ l. (l.from < nodes) × (l.to < nodes)) links

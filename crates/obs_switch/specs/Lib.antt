@@ -1,4 +1,4 @@
 pub mod Buses
-pub mod Labels
 pub mod Groups
 pub mod Held
+pub mod inner

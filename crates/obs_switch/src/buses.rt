@@ -1,6 +1,7 @@
 // Buses.
 ghost use Rattle.std.specs.Prelude.{◌≡◌, ◌<◌, ◌≤◌, [], length, slice_index, IfOk};
-ghost use Rattle.obs_switch.specs.Buses.{buses_of, bus_count, LinksBelow, members_of};
+ghost use Rattle.obs_switch.specs.Buses.{buses_of, bus_count, members_of};
+ghost use Rattle.obs_switch.specs.inner.Buses.{LinksBelow};
 
 use crate::group::group_of;
 use crate::link::Link;
@@ -37,7 +38,8 @@ pub struct Buses {
 
 impl Model for Buses {
     ghost use Rattle.std.specs.Prelude.{take, vec_len};
-    ghost use Rattle.obs_switch.specs.Held.{AreHeld, Buses};
+    ghost use Rattle.obs_switch.specs.Held.{Buses};
+    ghost use Rattle.obs_switch.specs.inner.Held.{AreHeld};
 
     ghost Value = { Buses };
 

@@ -1,8 +1,9 @@
 // The laws of buses.
 ghost use Rattle.std.specs.Prelude.{◌≡◌, ◌≢◌, ◌↔◌, ◌<◌, ◌≤◌, ◌++◌, ◌∷◌, ℕ, List, slice_index, length};
-ghost use Rattle.obs_graph.specs.Joined.{IsMerging};
+ghost use Rattle.obs_graph.specs.inner.Joined.{IsMerging};
 ghost use Rattle.obs_switch.specs.declared.link.Link.{Link};
-ghost use Rattle.obs_switch.specs.Buses.{AreOneBus, bus_of, bus_count, bus_under, buses_of, first_node, members_of};
+ghost use Rattle.obs_switch.specs.Buses.{AreOneBus, bus_of, bus_count, buses_of, first_node, members_of};
+ghost use Rattle.obs_switch.specs.inner.Buses.{bus_under};
 
 /// Two nodes have one bus exactly where a chain of closed switches leads from the one to the other.
 pub fn one_bus_by_chain()

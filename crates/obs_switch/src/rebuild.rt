@@ -1,7 +1,8 @@
 // The buses of some nodes, made anew.
 ghost use Rattle.std.specs.Prelude.{◌≡◌, ◌<◌, ◌≤◌, ◌^◌, ℕ, suc, length, slice_index, take};
-ghost use Rattle.obs_switch.specs.Buses.{buses_of, bus_count, LinksBelow};
-ghost use Rattle.obs_switch.specs.Groups.{AreGroups};
+ghost use Rattle.obs_switch.specs.Buses.{buses_of, bus_count};
+ghost use Rattle.obs_switch.specs.inner.Buses.{LinksBelow};
+ghost use Rattle.obs_switch.specs.inner.Groups.{AreGroups};
 
 use crate::group::group;
 use crate::link::Link;

@@ -1,6 +1,6 @@
 // Items in the order of their keys, where the key of one item changes.
 ghost use Rattle.std.specs.Prelude.{◌≡◌, ◌<◌, ◌≤◌, ◌==◌, ◌+◌, ◌^◌, ◌++◌, ◌∷◌, ℕ, List, length, slice_index, slice_set, count_by};
-ghost use Rattle.obs_switch.specs.Groups.{AreGroups};
+ghost use Rattle.obs_switch.specs.inner.Groups.{AreGroups};
 
 // How many items have the key.
 fn count_of(keys: &[u32], key: u32) -> usize

@@ -1,7 +1,8 @@
 // Labels that are lowered, sweep by sweep, until a whole sweep changes nothing.
 ghost use Rattle.std.specs.Prelude.{◌≡◌, ◌<◌, ◌≤◌, ◌^◌, false, length, slice_index, ℕ};
-ghost use Rattle.obs_switch.specs.Buses.{first_node, LinksBelow};
-ghost use Rattle.obs_switch.specs.Labels.{AreLabels, AreLowered, AreOwn, AreSettled};
+ghost use Rattle.obs_switch.specs.Buses.{first_node};
+ghost use Rattle.obs_switch.specs.inner.Buses.{LinksBelow};
+ghost use Rattle.obs_switch.specs.inner.Labels.{AreLabels, AreLowered, AreOwn, AreSettled};
 
 use crate::link::Link;
 

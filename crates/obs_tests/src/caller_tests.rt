@@ -1,9 +1,9 @@
 // Calls that a caller from outside makes, and no code here: the asks of a session, each lent, the calls of the searches
 // below it, and the pieces of a line.
 ghost use Rattle.std.specs.Prelude.{◌≡◌, ◌<◌, ◌≤◌, length};
-ghost use Rattle.obs_assign.specs.Assignment.{Fits};
-ghost use Rattle.obs_meter.specs.Sizes.{HasRoomFor};
-ghost use Rattle.obs_meter.specs.Touches.{AreInRange};
+ghost use Rattle.obs_assign.specs.inner.Assignment.{Fits};
+ghost use Rattle.obs_meter.specs.inner.Sizes.{HasRoomFor};
+ghost use Rattle.obs_meter.specs.inner.Touches.{AreInRange};
 
 use crate::reference_cases::{Tables, tables_of};
 use crate::scripts::nth_run;

@@ -1,6 +1,6 @@
 // Calls of the studies that a caller from outside makes, and no code here: each list lent, twice.
 ghost use Rattle.std.specs.Prelude.{◌≡◌, ◌<◌};
-ghost use Rattle.obs_kept.specs.Kept.{AreLongest};
+ghost use Rattle.obs_kept.specs.inner.Kept.{AreLongest};
 ghost use Rattle.obs_network.specs.Network.{network_of, rows_of};
 
 use crate::caller_tests::nth_case;

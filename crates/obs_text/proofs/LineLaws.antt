@@ -6,7 +6,8 @@ use Rattle.std.proofs.Math.Seq.{take-append_seam}
 use Rattle.std.specs.List.{before_first, concat, list_all, onto_first, position_or_len}
 use Rattle.std.specs.Str.Lines.{strip_carriage_return}
 use Rattle.obs_text.specs.Lines.{content, ended_lines, is_feed, lines_of}
-use Rattle.obs_text.specs.Laws.{AreLines, HasNoFeed, IsEnded}
+use Rattle.obs_text.specs.Laws.{HasNoFeed}
+use Rattle.obs_text.specs.inner.Laws.{AreLines, IsEnded}
 
 pub onto_first-joined : (byte : ℕ) (lines : List (List ℕ)) → concat (onto_first byte lines) ≡ byte ∷ concat lines
 onto_first-joined byte [] = refl

@@ -4,7 +4,8 @@ use Rattle.std.proofs.Math.Numerals.{one-add}
 use Rattle.std.proofs.lemmas.Bool.{cases_Bool}
 use Rattle.std.specs.List.{before_first, onto_first, position_or_len}
 use Rattle.std.specs.Str.Lines.{strip_carriage_return}
-use Rattle.obs_text.specs.Lines.{after_line, content, ended_lines, is_feed, lines_of}
+use Rattle.obs_text.specs.Lines.{content, ended_lines, is_feed, lines_of}
+use Rattle.obs_text.specs.inner.Lines.{after_line}
 
 -- the place of the first line feed
 abbrev pub feed_at : List ℕ → ℕ

@@ -1,6 +1,5 @@
 -- What is said of a fault of some input.
 use Rattle.std.specs.Prelude.{ℕ, List, codes}
-use Rattle.obs_text.specs.declared.faults.InputFault.{InputFault}
 
 -- a fault: the part of the input that has it, the row or line, which is 0 where it is none, and the fault's number and name
 pub record Fault : Type 0 where
@@ -8,10 +7,6 @@ pub record Fault : Type 0 where
   pub place : ℕ
   pub code : ℕ
   pub name : List ℕ
-
--- what an input fault says
-abbrev pub fault_of : InputFault → Fault
-fault_of fault = record { part = fault.part.now; place = fault.place; code = fault.code; name = fault.name.now }
 
 -- a file that has more bytes than a file may have
 abbrev pub too_long : List ℕ → Fault

@@ -5,3 +5,4 @@ pub mod Limits
 pub mod Lines
 pub mod Names
 pub mod Numbers
+pub mod inner

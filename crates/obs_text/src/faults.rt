@@ -1,6 +1,7 @@
 //! The one form in which the fault of any reader is told.
 ghost use Rattle.std.specs.Prelude.{◌≡◌};
-ghost use Rattle.obs_text.specs.Faults.{fault_of, too_long};
+ghost use Rattle.obs_text.specs.Faults.{too_long};
+ghost use Rattle.obs_text.specs.inner.Faults.{fault_of};
 
 /// The number of a file that is too long.
 const TOO_LONG: u32 = 14;

@@ -1,5 +1,5 @@
 //! What the definitions of this crate imply.
-ghost use Rattle.obs_text.specs.Laws.{BareIsBetweenBlanks, LinesAreTheBytes, ReadsDecimals};
+ghost use Rattle.obs_text.specs.inner.Laws.{BareIsBetweenBlanks, LinesAreTheBytes, ReadsDecimals};
 
 /// A number below 10^19 is read back from its decimal text, and a text that is read is that of its
 /// number, behind zeros.

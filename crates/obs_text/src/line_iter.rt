@@ -3,7 +3,8 @@ ghost use Rattle.std.specs.Prelude.{◌≡◌, List, ℕ};
 ghost use Rattle.std.specs.Iterator.{item_count};
 ghost use Rattle.std.specs.List.{before_first};
 ghost use Rattle.std.specs.Str.Lines.{strip_carriage_return};
-ghost use Rattle.obs_text.specs.Lines.{GivesLine, after_line, is_feed, lines_of};
+ghost use Rattle.obs_text.specs.Lines.{is_feed, lines_of};
+ghost use Rattle.obs_text.specs.inner.Lines.{GivesLine, after_line};
 
 use std::marker::Model;
 

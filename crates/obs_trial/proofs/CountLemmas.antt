@@ -6,7 +6,7 @@ use Rattle.std.proofs.lemmas.List.{append-nil, length-append, length-map}
 use Rattle.std.proofs.lemmas.List.FromFn.{length-enumerate_from, length-map-range_with_len}
 use Rattle.std.proofs.lemmas.Nat.{div-mul-add, mod-mul-add}
 use Rattle.std.specs.List.{enumerate_from, flat_map, range_with_len}
-use Rattle.obs_trial.specs.Laws.{HasCounts}
+use Rattle.obs_trial.specs.inner.Laws.{HasCounts}
 use Rattle.obs_trial.specs.Trial.{ends_at, ends_of_first, meter_at, node_at, to_below, to_right, trial_of}
 use Rattle.obs_trial.proofs.RowLemmas.{length-branches, range-more}
 

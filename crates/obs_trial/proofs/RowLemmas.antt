@@ -11,7 +11,7 @@ use Rattle.obs_case.specs.declared.rows.Branch.{Branch}
 use Rattle.obs_case.specs.declared.rows.Kind.{Kind}
 use Rattle.obs_case.specs.declared.rows.Node.{Node}
 use Rattle.obs_trial.specs.Draws.{draw_at, drawn, next_state, state_after}
-use Rattle.obs_trial.specs.Named.{HasPlaces, IsSoFar}
+use Rattle.obs_trial.specs.inner.Named.{HasPlaces, IsSoFar}
 use Rattle.obs_trial.specs.Trial.{branch_at, branch_name, ends_at, ends_of_first, kind_drawn, meter_at, meter_row, node_at, node_name, place_drawn, to_below, to_right, trial_with}
 
 -- one number more

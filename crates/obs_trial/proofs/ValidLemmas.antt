@@ -8,7 +8,8 @@ use Rattle.std.proofs.lemmas.Nat.{div_below}
 use Rattle.std.specs.List.{enumerate_from, range_with_len}
 use Rattle.std.specs.Str.{bytes_eq}
 use Rattle.obs_case.specs.Adds.{with_branch, with_meter}
-use Rattle.obs_case.specs.Tables.{IsValid, Tables, has_name, no_rows, places, usual_rows}
+use Rattle.obs_case.specs.Tables.{IsValid, Tables, has_name, places, usual_rows}
+use Rattle.obs_case.specs.inner.Tables.{no_rows}
 use Rattle.obs_case.specs.declared.rows.Meter.{Meter}
 use Rattle.obs_case.proofs.ValidLemmas.{valid-branches, valid-meters, valid-no_rows, valid-nodes}
 use Rattle.obs_trial.specs.Draws.{draw_at}

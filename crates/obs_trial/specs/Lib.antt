@@ -1,4 +1,3 @@
 pub mod Draws
-pub mod Laws
-pub mod Named
 pub mod Trial
+pub mod inner

@@ -1,7 +1,7 @@
 // The branches of a grid, each with its meter.
 ghost use Rattle.std.specs.Prelude.{◌≡◌, ◌<◌, ◌≤◌, ◌*◌, ◌++◌, ◌∷◌, [], List, ℕ, IfOk, OnOk};
-ghost use Rattle.obs_case.specs.Tables.{no_rows};
-ghost use Rattle.obs_trial.specs.Named.{IsSoFar};
+ghost use Rattle.obs_case.specs.inner.Tables.{no_rows};
+ghost use Rattle.obs_trial.specs.inner.Named.{IsSoFar};
 ghost use Rattle.obs_trial.specs.Trial.{ends_of_first, kind_drawn, nodes_of, place_drawn, to_below, to_right, trial_with};
 
 use crate::draws::{drawn, first_state, next_state};

@@ -1,5 +1,5 @@
 //! What a reader expects of a generated case.
-ghost use Rattle.obs_trial.specs.Laws.{FirstDraws, TrialCounts, TrialIsValid};
+ghost use Rattle.obs_trial.specs.inner.Laws.{FirstDraws, TrialCounts, TrialIsValid};
 
 /// A grid of n rows has n * n nodes, and 2 * n * (n - 1) branches and as many meters.
 pub fn counts()

@@ -1,7 +1,7 @@
 // One row more.
 ghost use Rattle.std.specs.Prelude.{◌≡◌, ◌<◌, ℕ, OnOk};
 ghost use Rattle.obs_case.specs.Adds.{with_branch, with_meter, with_node};
-ghost use Rattle.obs_trial.specs.Named.{HasNodes, HasPlaces, place_letter};
+ghost use Rattle.obs_trial.specs.inner.Named.{HasNodes, HasPlaces, place_letter};
 ghost use Rattle.obs_trial.specs.Trial.{branch_at, meter_row, node_at};
 
 use crate::memory::NoMemory;

@@ -5,8 +5,8 @@ use Rattle.obs_matroid.specs.Lists.{In}
 use Rattle.obs_meter.specs.Touches.{touch_at}
 use Rattle.obs_network.specs.Network.{case_branches, case_meters}
 use Rattle.obs_network.specs.Observable.{case_live_meters}
-use Rattle.obs_worked.specs.Answers.{FlowAndInjectionPair, NoBranchHasTwo, NoCycle, NoMeterHasTwo, NoneUntouched}
-use Rattle.obs_worked.specs.Cases.{row_of_four}
+use Rattle.obs_worked.specs.inner.Answers.{FlowAndInjectionPair, NoBranchHasTwo, NoCycle, NoMeterHasTwo, NoneUntouched}
+use Rattle.obs_worked.specs.inner.Cases.{row_of_four}
 use Rattle.obs_worked.proofs.Computed.{computed}
 
 clash : {P : Type 0} {b : Bool} → b ≡ true → b ≡ false → P

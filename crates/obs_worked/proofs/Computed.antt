@@ -16,7 +16,8 @@ use Rattle.obs_engine.specs.Summaries.{crowded_buses}
 use Rattle.obs_engine.specs.Trials.{dip_meters, island_count, trial_text}
 use Rattle.obs_files.specs.Files.{parsed}
 use Rattle.obs_islands.specs.Firsts.{in_one_island, is_spanned, island_first, some_part}
-use Rattle.obs_matpower.specs.Rows.{line_rows, rows_from, values_of}
+use Rattle.obs_matpower.specs.Rows.{line_rows, values_of}
+use Rattle.obs_matpower.specs.inner.Rows.{rows_from}
 use Rattle.obs_matpower.specs.Whole.{numbered_rows}
 use Rattle.obs_matroid.specs.Partners.{is_partner}
 use Rattle.obs_matroid.specs.Placement.{is_raising}

@@ -1,10 +1,1 @@
-pub mod Rows
-pub mod Cases
-pub mod Networks
-pub mod Answers
-pub mod Reports
-pub mod Studies
-pub mod Sessions
-pub mod Certificates
-pub mod Faults
-pub mod Runs
+pub mod inner

@@ -1,5 +1,5 @@
 // Assignments, ranks, critical meters, bounds, first assignments and islands.
-ghost use Rattle.obs_worked.specs.Answers.{BoundOfRowOfFour, CriticalMeters, FirstPairs, FlowAndInjectionPair, Islands, IslandsOfFive, IslandsOverReference, NoBranchHasTwo, NoCycle, NoMeterHasTwo, NoneUntouched, Ranks};
+ghost use Rattle.obs_worked.specs.inner.Answers.{BoundOfRowOfFour, CriticalMeters, FirstPairs, FlowAndInjectionPair, Islands, IslandsOfFive, IslandsOverReference, NoBranchHasTwo, NoCycle, NoMeterHasTwo, NoneUntouched, Ranks};
 
 /// An assignment gives different meters different branches that they touch, which are a forest.
 pub fn assignments()

@@ -1,5 +1,5 @@
 // What is answered to certificates.
-ghost use Rattle.obs_worked.specs.Certificates.{ClaimsHold, EndIsMissing, HasCycle, HasUnknownName, HasWrongLength, HasWrongOutside, IsNoComponent, IsNotBelow, IsNotInside, IsNotTouched, PlansAreChecked, StandsTwice};
+ghost use Rattle.obs_worked.specs.inner.Certificates.{ClaimsHold, EndIsMissing, HasCycle, HasUnknownName, HasWrongLength, HasWrongOutside, IsNoComponent, IsNotBelow, IsNotInside, IsNotTouched, PlansAreChecked, StandsTwice};
 
 /// Claims that hold.
 pub fn valid()

@@ -1,5 +1,5 @@
 // The case that tables are, or their first fault.
-ghost use Rattle.obs_worked.specs.Faults.{FaultsOfNodes, FaultsOfOthers, RowIsRead};
+ghost use Rattle.obs_worked.specs.inner.Faults.{FaultsOfNodes, FaultsOfOthers, RowIsRead};
 
 /// The bytes of five tables are a case, row by row.
 pub fn cases()

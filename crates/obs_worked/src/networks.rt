@@ -1,5 +1,5 @@
 // Buses, components and what they need, and what meters touch.
-ghost use Rattle.obs_worked.specs.Networks.{AbsoluteNeedsOneMore, BusesOfOneOpen, BusesOfThreeJoined, ComponentsOfOnePartShut, ComponentsOfTwoParts, EnergisedOfTwoParts, JoinedInTriangle, NeedsOfTwoParts, TouchesOfRowOfFour};
+ghost use Rattle.obs_worked.specs.inner.Networks.{AbsoluteNeedsOneMore, BusesOfOneOpen, BusesOfThreeJoined, ComponentsOfOnePartShut, ComponentsOfTwoParts, EnergisedOfTwoParts, JoinedInTriangle, NeedsOfTwoParts, TouchesOfRowOfFour};
 
 /// Closed switches make buses, which are named and numbered by their first nodes. An open switch joins nothing.
 pub fn buses()

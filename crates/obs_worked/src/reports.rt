@@ -1,5 +1,5 @@
 // What is printed of worked cases.
-ghost use Rattle.obs_worked.specs.Reports.{AbsolutePairIsReported, AngleIsBought, GivenIsPrinted, NodesArePrinted, OneBusIsReported, ParallelIsReported, PlanIsPrinted, RowOfFourIsReported, ShortfallIsPrinted, StarIsReported, SummariesAreSaid, TrialsArePrinted, TriangleIsReported, TwoLayersArePrinted, WithoutSourceIsReported};
+ghost use Rattle.obs_worked.specs.inner.Reports.{AbsolutePairIsReported, AngleIsBought, GivenIsPrinted, NodesArePrinted, OneBusIsReported, ParallelIsReported, PlanIsPrinted, RowOfFourIsReported, ShortfallIsPrinted, StarIsReported, SummariesAreSaid, TrialsArePrinted, TriangleIsReported, TwoLayersArePrinted, WithoutSourceIsReported};
 
 /// Nodes and their buses.
 pub fn nodes()

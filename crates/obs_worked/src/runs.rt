@@ -1,5 +1,5 @@
 // What is stated of whole calls.
-ghost use Rattle.obs_worked.specs.Runs.{CdfIsAnswered, FaultIsAnswered, FilesAreLimited, InputsAreLimited, LimitsAreGiven, MatIsAnswered, ReportIsAnswered, RowsAreLimited, SessionIsAnswered, TopologyIsAnswered, UsageIsAnswered};
+ghost use Rattle.obs_worked.specs.inner.Runs.{CdfIsAnswered, FaultIsAnswered, FilesAreLimited, InputsAreLimited, LimitsAreGiven, MatIsAnswered, ReportIsAnswered, RowsAreLimited, SessionIsAnswered, TopologyIsAnswered, UsageIsAnswered};
 
 /// Words and files have one reply, which is that of the case that the files are.
 pub fn answers()

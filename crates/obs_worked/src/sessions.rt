@@ -1,5 +1,5 @@
 // The answers to the lines of sessions.
-ghost use Rattle.obs_worked.specs.Sessions.{LinesAreRefused, LossesAreAnswered, SwitchesAreOpened};
+ghost use Rattle.obs_worked.specs.inner.Sessions.{LinesAreRefused, LossesAreAnswered, SwitchesAreOpened};
 
 /// Edits are answered by the numbers of the case after them, and asks by that case.
 pub fn edits()

@@ -1,5 +1,5 @@
 // What is left after losses.
-ghost use Rattle.obs_worked.specs.Studies.{ClassesArePrinted, OutagesArePrinted, OutagesOfRowOfFour, StationsArePrinted};
+ghost use Rattle.obs_worked.specs.inner.Studies.{ClassesArePrinted, OutagesArePrinted, OutagesOfRowOfFour, StationsArePrinted};
 
 /// What becomes of a case where a branch trips.
 pub fn outages()

@@ -2,11 +2,11 @@
 ghost use Rattle.std.specs.Prelude.{◌≡◌, ◌↔◌, ◌+◌, ◌<◌, ◌≤◌, ℕ, None, length, false, true, IfSome, IsSome, IsTrue, slice_index_or, slice_set};
 ghost use Rattle.obs_matroid.specs.Lists.{In};
 ghost use Rattle.obs_meter.specs.Touches.{touch_at};
-ghost use Rattle.obs_forest.specs.Forest.{StandsOver as ForestStandsOver};
-ghost use Rattle.obs_assign.specs.Assignment.{HasRoomOf, IsWhole, StandsOver, is_frozen, pairs};
-ghost use Rattle.obs_assign.specs.Moves.{turned};
-ghost use Rattle.obs_assign.specs.Pins.{IsPinnedAt, MayPin};
-ghost use Rattle.obs_assign.specs.Spare.{IsSpare};
+ghost use Rattle.obs_forest.specs.inner.Forest.{StandsOver as ForestStandsOver};
+ghost use Rattle.obs_assign.specs.inner.Assignment.{HasRoomOf, IsWhole, StandsOver, is_frozen, pairs};
+ghost use Rattle.obs_assign.specs.inner.Moves.{turned};
+ghost use Rattle.obs_assign.specs.inner.Pins.{IsPinnedAt, MayPin};
+ghost use Rattle.obs_assign.specs.inner.Spare.{IsSpare};
 
 use super::Assignment;
 use crate::Move;

@@ -2,7 +2,7 @@
 ghost use Rattle.std.proofs.Common.{rules};
 ghost use Rattle.std.specs.Prelude.{◌≡◌, ℕ, Some, ⊤};
 ghost use Rattle.obs_io.specs.Contents.{content_at};
-ghost use Rattle.obs_io.specs.Limits.{most_place};
+ghost use Rattle.obs_io.specs.inner.Limits.{most_place};
 
 use crate::memory::piece::copy_piece;
 use crate::{Failed, Files};

@@ -3,8 +3,8 @@ ghost use Rattle.std.proofs.Common.{rules};
 ghost use Rattle.std.specs.Prelude.{◌≡◌, ◌≢◌, ◌<◌, ◌≤◌, [], ℕ, IfOk, IsOk, IsSome, is_ok, slice_index, length, option_map};
 ghost use Rattle.obs_io.specs.Bytes.{ReadsPart};
 ghost use Rattle.obs_io.specs.Causes.{HasCause};
-ghost use Rattle.obs_io.specs.Limits.{most_place};
-ghost use Rattle.obs_io.specs.Memory.{content_of, next_call, reads_well};
+ghost use Rattle.obs_io.specs.inner.Limits.{most_place};
+ghost use Rattle.obs_io.specs.inner.Memory.{content_of, next_call, reads_well};
 
 use crate::memory::entry::Entry;
 use crate::memory::piece::copy_piece;

@@ -2,7 +2,7 @@
 ghost use Rattle.std.specs.Prelude.{◌≡◌, ◌<◌, ◌≤◌, ◌+◌, ◌-◌, ℕ, [], Some, IfOk, IsOk, OnErr, is_ok, length, vec_len, vec_capacity};
 ghost use Rattle.obs_io.specs.Bytes.{PutsFront};
 ghost use Rattle.obs_io.specs.Causes.{HasCause};
-ghost use Rattle.obs_io.specs.Memory.{next_call, writes_well};
+ghost use Rattle.obs_io.specs.inner.Memory.{next_call, writes_well};
 
 use crate::{Failed, Sink};
 use std::alloc::{AllocError, AllocFailed, Global};

@@ -2,7 +2,7 @@
 ghost use Rattle.std.specs.Prelude.{◌≡◌, ◌<◌, ◌≤◌, [], Some, IfOk, IsOk, drop, is_ok, length, not};
 ghost use Rattle.obs_io.specs.Bytes.{TakesFront};
 ghost use Rattle.obs_io.specs.Causes.{HasCause};
-ghost use Rattle.obs_io.specs.Memory.{is_listed, next_call};
+ghost use Rattle.obs_io.specs.inner.Memory.{is_listed, next_call};
 
 use crate::memory::piece::copy_piece;
 use crate::{Failed, Source};

@@ -3,7 +3,7 @@ ghost use Rattle.std.proofs.Common.{rules};
 ghost use Rattle.std.specs.Prelude.{◌≡◌, ◌≢◌, ◌<◌, ◌≤◌, ℕ, None, IfOk, IsErr, IsOk, slice_index, length};
 ghost use Rattle.obs_io.specs.Bytes.{ReadsPart};
 ghost use Rattle.obs_io.specs.Causes.{HasCause};
-ghost use Rattle.obs_io.specs.Limits.{most_place};
+ghost use Rattle.obs_io.specs.inner.Limits.{most_place};
 
 use crate::real::counted::counted;
 use crate::{Failed, Files};

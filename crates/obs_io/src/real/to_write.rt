@@ -1,7 +1,9 @@
 // A sink over a writer.
 ghost use Rattle.std.specs.Prelude.{◌≡◌, ◌<◌, ◌≤◌, ◌-◌, ◌&&◌, ℕ, IfOk, IsOk, None, is_ok, length};
-ghost use Rattle.obs_io.specs.Bytes.{PutsFront, GivesFront};
-ghost use Rattle.obs_io.specs.Causes.{HasCause, wrote_some};
+ghost use Rattle.obs_io.specs.Bytes.{PutsFront};
+ghost use Rattle.obs_io.specs.inner.Bytes.{GivesFront};
+ghost use Rattle.obs_io.specs.Causes.{HasCause};
+ghost use Rattle.obs_io.specs.inner.Causes.{wrote_some};
 
 use crate::real::counted::counted;
 use crate::{Failed, Sink};

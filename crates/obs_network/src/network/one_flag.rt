@@ -1,6 +1,6 @@
 // The network after the flag of one branch or of one meter was set.
 ghost use Rattle.std.specs.Prelude.{◌≡◌, ◌<◌, IsTrue, None, length, slice_index_or, take};
-ghost use Rattle.obs_network.specs.Edited.{AreSameBut, ChangesAlone, IsBeforeBranch, IsBeforeMeter};
+ghost use Rattle.obs_network.specs.inner.Edited.{AreSameBut, ChangesAlone, IsBeforeBranch, IsBeforeMeter};
 ghost use Rattle.obs_network.specs.Network.{case_live, network_of};
 
 use super::Network;

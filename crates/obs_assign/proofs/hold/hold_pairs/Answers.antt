@@ -1,7 +1,7 @@
 use Rattle.std.proofs.Common.{ℕ, List, sym, subst, arith}
-use Rattle.obs_graph.specs.Search.{IsRooted}
-use Rattle.obs_forest.specs.Forest.{taken}
-use Rattle.obs_assign.specs.Kept.{IsListed}
+use Rattle.obs_graph.specs.inner.Search.{IsRooted}
+use Rattle.obs_forest.specs.inner.Forest.{taken}
+use Rattle.obs_assign.specs.inner.Kept.{IsListed}
 use Rattle.obs_assign.proofs.Listed.{IsListed-all}
 use Rattle.obs_assign.proofs.Slotted.{branch_low, slots_apart}
 use Rattle.obs_assign.proofs.hold.hold_pairs.Goals as goal

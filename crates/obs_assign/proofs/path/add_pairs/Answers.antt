@@ -1,7 +1,7 @@
 use Rattle.std.proofs.Common.{◌≡◌, ◌+◌, List, Option, ℕ, drop, get_or, subst, sym, ap, inl, refl, arith}
 use Rattle.std.proofs.lemmas.List.{drop_all, drop_more}
 use Rattle.obs_assign.specs.declared.Move.{Move}
-use Rattle.obs_assign.specs.Kept.{Kept, with_slots}
+use Rattle.obs_assign.specs.inner.Kept.{Kept, with_slots}
 use Rattle.obs_assign.proofs.Over.{IsOver-new, over-next}
 use Rattle.obs_assign.proofs.Stepping.{Adding-begun, Adding-forest, Adding-more, IsAdding}
 use Rattle.obs_assign.proofs.path.add_pairs.Goals as goal

@@ -1,5 +1,5 @@
 use Rattle.std.proofs.Common.{◌≡◌, drop}
-use Rattle.obs_assign.specs.Kept.{with_slots}
+use Rattle.obs_assign.specs.inner.Kept.{with_slots}
 use Rattle.obs_assign.proofs.Stepping.{IsAdding}
 use Rattle.obs_assign.proofs.path.add_pairs.Given as goal
 

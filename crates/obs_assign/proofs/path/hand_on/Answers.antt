@@ -2,10 +2,10 @@ use Rattle.std.proofs.Common.{◌≡◌, ◌<◌, ◌+◌, ◌-◌, ℕ, Option,
 use Rattle.std.proofs.lemmas.List.{drop_more}
 use Rattle.obs_graph.specs.Positions.{IsForestAt}
 use Rattle.obs_matroid.specs.Assignments.{branches}
-use Rattle.obs_matroid.specs.Slots.{pairs_of}
+use Rattle.obs_matroid.specs.inner.Slots.{pairs_of}
 use Rattle.obs_assign.specs.declared.Move.{Move}
-use Rattle.obs_assign.specs.Kept.{Kept, with_slots}
-use Rattle.obs_assign.specs.Pins.{pinned_slots}
+use Rattle.obs_assign.specs.inner.Kept.{Kept, with_slots}
+use Rattle.obs_assign.specs.inner.Pins.{pinned_slots}
 use Rattle.obs_assign.proofs.Handing.{Handing-begun, Handing-more, IsHanding, hand_bare, one_left, two_left}
 use Rattle.obs_assign.proofs.Over.{IsOver-new, over-next}
 use Rattle.obs_assign.proofs.path.hand_on.Goals as goal

@@ -1,5 +1,5 @@
 use Rattle.std.proofs.Common.{◌≡◌, drop}
-use Rattle.obs_assign.specs.Kept.{with_slots}
+use Rattle.obs_assign.specs.inner.Kept.{with_slots}
 use Rattle.obs_assign.proofs.Handing.{IsHanding}
 use Rattle.obs_assign.proofs.path.hand_on.Given as goal
 

@@ -1,5 +1,5 @@
 use Rattle.std.proofs.Common.{None, drop}
-use Rattle.obs_assign.specs.Moves.{HandsOn}
+use Rattle.obs_assign.specs.inner.Moves.{HandsOn}
 use Rattle.obs_assign.proofs.path.hands_on.Given as goal
 
 abbrev pub invariant-loop-x : goal.invariant-loop-x

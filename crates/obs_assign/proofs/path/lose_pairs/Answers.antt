@@ -2,7 +2,7 @@ use Rattle.std.proofs.Common.{◌≡◌, ◌+◌, List, None, Option, ℕ, drop,
 use Rattle.std.proofs.lemmas.List.{drop_all, drop_more}
 use Rattle.obs_matroid.proofs.Contained.{All-from_In}
 use Rattle.obs_assign.specs.declared.Move.{Move}
-use Rattle.obs_assign.specs.Kept.{Kept, with_slots}
+use Rattle.obs_assign.specs.inner.Kept.{Kept, with_slots}
 use Rattle.obs_assign.proofs.Over.{IsOver-new, over-next}
 use Rattle.obs_assign.proofs.Stepping.{IsLosing, Losing-begun, Losing-ended, Losing-more}
 use Rattle.obs_assign.proofs.path.lose_pairs.Goals as goal

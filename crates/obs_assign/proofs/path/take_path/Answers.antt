@@ -2,10 +2,10 @@ use Rattle.std.proofs.Common.{◌≡◌, ◌<◌, List, Option, ℕ, length, sym
 use Rattle.std.specs.Prelude.{All}
 use Rattle.obs_graph.specs.Positions.{IsForestAt}
 use Rattle.obs_matroid.specs.Assignments.{branches}
-use Rattle.obs_matroid.specs.Slots.{pairs_of}
+use Rattle.obs_matroid.specs.inner.Slots.{pairs_of}
 use Rattle.obs_assign.specs.declared.Move.{Move}
-use Rattle.obs_assign.specs.Kept.{with_slots}
-use Rattle.obs_assign.specs.Moves.{HandsOn}
+use Rattle.obs_assign.specs.inner.Kept.{with_slots}
+use Rattle.obs_assign.specs.inner.Moves.{HandsOn}
 use Rattle.std.specs.Prelude.{None}
 use Rattle.obs_assign.proofs.Over.{IsOver-new, over-next}
 use Rattle.obs_assign.proofs.path.take_path.Goals as goal

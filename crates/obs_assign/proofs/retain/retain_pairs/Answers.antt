@@ -4,10 +4,10 @@ use Rattle.std.proofs.lemmas.List.{length-take-le, take_all, take-append-le}
 use Rattle.obs_assign.proofs.Slotted.{slot_low}
 use Rattle.obs_assign.proofs.Retained.{IsRetained, IsRetained-made, low_positions, ups_low}
 use Rattle.obs_assign.proofs.retain.retain_pairs.Goals as goal
-use Rattle.obs_assign.specs.Kept.{SlotsApart}
+use Rattle.obs_assign.specs.inner.Kept.{SlotsApart}
 use Rattle.obs_assign.proofs.retain.retain_pairs.Goals.{After-count, After-choose}
-use Rattle.obs_matroid.specs.Slots.{pairs_of}
-use Rattle.obs_assign.specs.Still.{AreRetained}
+use Rattle.obs_matroid.specs.inner.Slots.{pairs_of}
+use Rattle.obs_assign.specs.inner.Still.{AreRetained}
 
 -- the slots of the meters
 low : (c : After-count) → (m e : ℕ) → get_or (take c.count.result c.args.slots.now) m None ≡ Some e → e < length c.args.g.now.ends

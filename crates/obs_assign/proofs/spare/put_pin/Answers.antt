@@ -2,9 +2,9 @@ use Rattle.std.proofs.Common.{◌≡◌, ℕ, true, Option, Some, None, get_or, 
 use Rattle.std.specs.Prelude.{is_some}
 use Rattle.obs_graph.specs.Positions.{IsForestAt}
 use Rattle.obs_matroid.specs.Assignments.{branches}
-use Rattle.obs_matroid.specs.Slots.{pairs_of}
+use Rattle.obs_matroid.specs.inner.Slots.{pairs_of}
 use Rattle.obs_matroid.proofs.Lists.{clash}
-use Rattle.obs_assign.specs.Kept.{Kept, with_slots}
+use Rattle.obs_assign.specs.inner.Kept.{Kept, with_slots}
 use Rattle.obs_assign.proofs.Keeping.{slot_without}
 use Rattle.obs_assign.proofs.Over.{IsOver-new, over_stands}
 use Rattle.obs_assign.proofs.Pinning.{some_there}

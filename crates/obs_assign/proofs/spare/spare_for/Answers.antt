@@ -4,9 +4,10 @@ use Rattle.obs_graph.specs.Positions.{present}
 use Rattle.obs_graph.proofs.IsJoined.{true-from_same}
 use Rattle.obs_graph.proofs.Present.{present_low}
 use Rattle.obs_matroid.specs.Assignments.{branches}
-use Rattle.obs_matroid.specs.Slots.{pairs_of}
-use Rattle.obs_forest.specs.Forest.{Forest, StandsOver}
-use Rattle.obs_assign.specs.Assignment.{ArePaired}
+use Rattle.obs_matroid.specs.inner.Slots.{pairs_of}
+use Rattle.obs_forest.specs.Forest.{Forest}
+use Rattle.obs_forest.specs.inner.Forest.{StandsOver}
+use Rattle.obs_assign.specs.inner.Assignment.{ArePaired}
 use Rattle.obs_assign.proofs.Paths.{apart-pairs, apart_ends, apart_spare, cycle_at, ends_are, owned_low, owner_frozen, owner_spare, path_low, path_owned, spare_found}
 use Rattle.obs_assign.proofs.spare.spare_for.Goals as goal
 use Rattle.obs_assign.proofs.spare.spare_for.Goals.{After-unwrap-ends}

@@ -1,9 +1,9 @@
 use Rattle.std.proofs.Common.{◌≡◌, ℕ, Option, None, List, get_or, length, ap, sym, ◌∙◌, subst, length-set, arith}
 use Rattle.obs_graph.specs.Positions.{IsForestAt}
 use Rattle.obs_matroid.specs.Assignments.{branches}
-use Rattle.obs_matroid.specs.Slots.{pairs_of}
-use Rattle.obs_assign.specs.Kept.{Kept, with_slots}
-use Rattle.obs_assign.specs.Pins.{pinned_slots}
+use Rattle.obs_matroid.specs.inner.Slots.{pairs_of}
+use Rattle.obs_assign.specs.inner.Kept.{Kept, with_slots}
+use Rattle.obs_assign.specs.inner.Pins.{pinned_slots}
 use Rattle.obs_assign.proofs.Keeping.{slot_without}
 use Rattle.obs_assign.proofs.Over.{IsOver-new}
 use Rattle.obs_assign.proofs.Pinning.{nothing, pinned-lost}

@@ -1,6 +1,6 @@
 use Rattle.std.proofs.Common.{◌∙◌, map, sym}
 use Rattle.std.proofs.lemmas.List.{length-map}
-use Rattle.obs_case.specs.Adds.{first_fault, name_fault}
+use Rattle.obs_case.specs.inner.Adds.{first_fault, name_fault}
 use Rattle.obs_case.proofs.AddLemmas.{told_none, told_other, told_some, told_twice}
 use Rattle.obs_case.proofs.RowLemmas.{any-by_name}
 use Rattle.obs_case.proofs.table.refusal.Goals as goal

@@ -2,7 +2,7 @@ use Rattle.std.proofs.Common.{map, ap, ◌∙◌, refl, sym, subst}
 use Rattle.std.specs.Prelude.{option_map}
 use Rattle.obs_case.specs.declared.rows.Candidate.{Candidate}
 use Rattle.obs_case_csv.specs.declared.faults.Table.TheVariants.{Meters, Candidates}
-use Rattle.obs_case_csv.specs.Read.{HoldsFirstRowsIfGiven}
+use Rattle.obs_case_csv.specs.inner.Read.{HoldsFirstRowsIfGiven}
 use Rattle.obs_case_csv.proofs.ReadLemmas.{other_names, no_rows_more}
 use Rattle.obs_case_csv.proofs.read.add_tables.Goals as goal
 

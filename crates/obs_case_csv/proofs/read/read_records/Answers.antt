@@ -1,8 +1,9 @@
 use Rattle.std.proofs.Common.{arith, ◌≡◌, ◌∙◌, ◌+◌, ◌-◌, length, suc, refl, subst, sym, ap}
 use Rattle.std.proofs.lemmas.Result.{err_from_is_err_and}
 use Rattle.csv.specs.Records.{fields_of}
-use Rattle.obs_case_csv.specs.Read.{HoldsFirstRows, fault_of_records, most_records, rows_of_records, table_records}
-use Rattle.obs_case_csv.specs.Records.{Gives}
+use Rattle.obs_case_csv.specs.Read.{fault_of_records, most_records, rows_of_records, table_records}
+use Rattle.obs_case_csv.specs.inner.Read.{HoldsFirstRows}
+use Rattle.obs_case_csv.specs.inner.Records.{Gives}
 use Rattle.obs_case_csv.proofs.ReadLemmas.{IsReading, faulty_header, reading-all, reading-ends, reading-first_rows, reading-most, reading-next, reading-starts, reading-stays}
 use Rattle.obs_case_csv.proofs.RecordLemmas.{gives-header, gives-none}
 use Rattle.obs_case_csv.proofs.read.read_records.Goals as goal

@@ -1,7 +1,7 @@
 use Rattle.std.proofs.Common.{◌-◌, List}
 use Rattle.obs_case_csv.specs.Fields.{Record}
 use Rattle.obs_case_csv.specs.Read.{most_records}
-use Rattle.obs_case_csv.specs.Records.{Gives}
+use Rattle.obs_case_csv.specs.inner.Records.{Gives}
 use Rattle.obs_case_csv.proofs.ReadLemmas.{IsReading}
 use Rattle.obs_case_csv.proofs.read.read_records.Given as goal
 

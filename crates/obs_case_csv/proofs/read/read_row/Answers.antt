@@ -1,6 +1,6 @@
 use Rattle.std.proofs.Common.{◌∙◌, [], ap, sym, unwrap_or}
 use Rattle.csv.specs.Records.{fields_of}
-use Rattle.obs_case_csv.specs.Columns.{fourth_column, own_column, second_column, third_column}
+use Rattle.obs_case_csv.specs.inner.Columns.{fourth_column, own_column, second_column, third_column}
 use Rattle.obs_case_csv.specs.Fields.{field_or_0}
 use Rattle.obs_case_csv.proofs.FieldLemmas.{field-at, with_fields-ordered}
 use Rattle.obs_case_csv.proofs.read.read_row.Goals as goal

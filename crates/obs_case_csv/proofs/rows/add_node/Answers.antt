@@ -1,7 +1,8 @@
 use Rattle.std.proofs.Common.{◌∙◌, ap, sym, true, unwrap_or, false}
 use Rattle.obs_case.specs.declared.rows.Node.{Node}
-use Rattle.obs_case.specs.Adds.{node_of, with_node}
-use Rattle.obs_case.specs.Flags.{with_absolute}
+use Rattle.obs_case.specs.Adds.{with_node}
+use Rattle.obs_case.specs.inner.Adds.{node_of}
+use Rattle.obs_case.specs.inner.Flags.{with_absolute}
 use Rattle.obs_case.proofs.RowLemmas.{changed-last}
 use Rattle.obs_case_csv.proofs.rows.add_node.Goals as goal
 

@@ -2,7 +2,7 @@ use mir.Val.{bool_byte}
 use Rattle.std.proofs.Common.{◌≡◌, ◌+◌, ◌≤◌, sym, ap, ◌∙◌, length, arith}
 use Rattle.obs_text.specs.Lines.{lines_of}
 use Rattle.obs_text.proofs.LineLaws.{length-lines_of}
-use Rattle.obs_cert.specs.Places.{is_start}
+use Rattle.obs_cert.specs.inner.Places.{is_start}
 use Rattle.obs_cert.proofs.CountLemmas.{all_counted, at-most-one, byte-one, count_one, counted_none, one, refused_end, refused_here, room_for_one}
 use Rattle.obs_cert.proofs.cert.count_claims.Goals as goal
 

@@ -3,7 +3,7 @@ use Rattle.obs_case.specs.Tables.{Tables}
 use Rattle.obs_cert.specs.Claims.{Claim}
 use Rattle.obs_cert.specs.declared.flaw.FlawCode.{FlawCode}
 use Rattle.obs_cert.specs.Flaws.{first_flaw, flaw_of}
-use Rattle.obs_cert.specs.Walked.{claim_said, parts_in}
+use Rattle.obs_cert.specs.inner.Walked.{claim_said, parts_in}
 use Rattle.obs_cert.proofs.checker.first_flaw.Goals as goal
 
 pub begin-requires : goal.begin-requires

@@ -1,7 +1,7 @@
 use Rattle.std.proofs.Common.{◌≡◌, ◌+◌, suc, length}
 use Rattle.obs_cert.specs.Flaws.{first_flaw}
-use Rattle.obs_cert.specs.Ready.{IsReady}
-use Rattle.obs_cert.specs.Walked.{parts_in}
+use Rattle.obs_cert.specs.inner.Ready.{IsReady}
+use Rattle.obs_cert.specs.inner.Walked.{parts_in}
 use Rattle.obs_cert.proofs.checker.first_flaw.Given as goal
 
 abbrev pub invariant-loop-claim : goal.invariant-loop-claim

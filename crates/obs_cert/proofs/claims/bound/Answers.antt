@@ -3,8 +3,8 @@ use Rattle.std.proofs.lemmas.Bool.{not-false, not-true}
 use Rattle.obs_case.specs.Tables.{Tables}
 use Rattle.obs_cert.specs.Flaws.{unknown_item}
 use Rattle.obs_cert.specs.Scopes.{is_meter_in, scope_of}
-use Rattle.obs_cert.specs.Walked.{parts_in}
-use Rattle.obs_network.specs.Located.{live_meters_of}
+use Rattle.obs_cert.specs.inner.Walked.{parts_in}
+use Rattle.obs_network.specs.inner.Located.{live_meters_of}
 use Rattle.obs_network.specs.Network.{Network}
 use Rattle.obs_cert.proofs.ClaimLemmas.{bound_dead, bound_list, bound_nameless, bound_unknown, ready_later}
 use Rattle.obs_cert.proofs.ComponentLemmas.{rows_few, scope_few, scope_same}

@@ -1,9 +1,9 @@
 use Rattle.std.proofs.Common.{◌≡◌, length, suc, refl, sym, ap, ◌∙◌}
 use Rattle.obs_case.specs.Tables.{Tables}
 use Rattle.obs_cert.specs.Flaws.{not_inside, twice}
-use Rattle.obs_cert.specs.InScope.{in_scope}
+use Rattle.obs_cert.specs.inner.InScope.{in_scope}
 use Rattle.obs_cert.specs.Numbered.{items_of}
-use Rattle.obs_cert.specs.Walked.{parts_in}
+use Rattle.obs_cert.specs.inner.Walked.{parts_in}
 use Rattle.obs_cert.proofs.ClaimLemmas.{ready_later, ready_listed}
 use Rattle.obs_cert.proofs.claims.list.Goals as goal
 use Rattle.obs_cert.proofs.claims.list.Goals.{After-has_outside, After-has_twice}

@@ -3,9 +3,10 @@ use Rattle.std.specs.Vec.{with_items}
 use Rattle.obs_network.specs.Network.{rows_of}
 use Rattle.obs_cert.specs.Flaws.{not_inside, outside_of, rank_of_items}
 use Rattle.obs_cert.specs.Numbered.{items_of}
-use Rattle.obs_cert.specs.Ready.{IsReady}
-use Rattle.obs_cert.specs.Scopes.{OfItems, scope_of}
-use Rattle.obs_cert.specs.Walked.{parts_in}
+use Rattle.obs_cert.specs.inner.Ready.{IsReady}
+use Rattle.obs_cert.specs.Scopes.{scope_of}
+use Rattle.obs_cert.specs.inner.Scopes.{OfItems}
+use Rattle.obs_cert.specs.inner.Walked.{parts_in}
 use Rattle.obs_cert.proofs.ClaimLemmas.{bound_high, bound_rank, bound_right, bound_wrong, free_of, outside_counted, ready_measured}
 use Rattle.obs_cert.proofs.claims.numbers.Goals as goal
 use Rattle.obs_cert.proofs.claims.numbers.Goals.{After-from-2, After-measure_listed-rank}

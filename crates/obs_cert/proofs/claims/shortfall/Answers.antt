@@ -5,7 +5,7 @@ use Rattle.obs_cert.specs.declared.flaw.FlawCode.TheVariants.{NotInside}
 use Rattle.obs_cert.specs.Flaws.{first_true, list_clauses, not_inside, unknown_item}
 use Rattle.obs_cert.specs.Numbered.{items_of}
 use Rattle.obs_cert.specs.Scopes.{is_live_item}
-use Rattle.obs_cert.specs.Walked.{parts_in}
+use Rattle.obs_cert.specs.inner.Walked.{parts_in}
 use Rattle.obs_cert.proofs.ClaimLemmas.{ready_later, shortfall_rest}
 use Rattle.obs_cert.proofs.OutsideLemmas.{live_of_items}
 use Rattle.obs_cert.proofs.claims.shortfall.Goals as goal

@@ -4,7 +4,7 @@ use Rattle.obs_case.specs.Tables.{Tables}
 use Rattle.obs_cert.specs.Flaws.{first_true, forest_clauses, not_inside, paired_twice, unknown_pair}
 use Rattle.obs_cert.specs.Numbered.{items_of, paired_items, pairs_of}
 use Rattle.obs_cert.specs.Scopes.{is_meter_in}
-use Rattle.obs_cert.specs.Walked.{parts_in}
+use Rattle.obs_cert.specs.inner.Walked.{parts_in}
 use Rattle.obs_cert.proofs.ClaimLemmas.{forest_end, ready_later, ready_pairs, tree_dead, tree_nameless, tree_outside, tree_rest, tree_touched, tree_twice, tree_unknown}
 use Rattle.obs_cert.proofs.claims.tree.Goals as goal
 

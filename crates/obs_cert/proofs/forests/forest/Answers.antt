@@ -1,8 +1,8 @@
 use Rattle.std.proofs.Common.{[], ℕ, length, ap, ◌∙◌}
 use Rattle.std.specs.Vec.{with_items}
 use Rattle.obs_network.specs.Network.{rows_of}
-use Rattle.obs_cert.specs.Joins.{AreJoined}
-use Rattle.obs_cert.specs.Ready.{HasRoom, IsReady}
+use Rattle.obs_cert.specs.inner.Joins.{AreJoined}
+use Rattle.obs_cert.specs.inner.Ready.{HasRoom, IsReady}
 use Rattle.obs_cert.proofs.ClaimLemmas.{clear_joined, free_of, ready_joined, room_joined}
 use Rattle.obs_cert.proofs.forests.forest.Goals as goal
 use Rattle.obs_cert.proofs.forests.forest.Goals.{After-measure_pairs-forest}

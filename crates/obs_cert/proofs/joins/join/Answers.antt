@@ -1,6 +1,6 @@
 use Rattle.std.proofs.Common.{List, take, sym, ◌∙◌, arith, add-one}
 use Rattle.obs_graph.specs.declared.Ends.{Ends}
-use Rattle.obs_cert.specs.Joins.{AreJoined}
+use Rattle.obs_cert.specs.inner.Joins.{AreJoined}
 use Rattle.obs_cert.proofs.JoinLemmas.{AreFound, found, joined_already, joined_new, room_left}
 use Rattle.obs_cert.proofs.joins.join.Goals as goal
 use Rattle.obs_cert.proofs.joins.join.Goals.{After-first-y}

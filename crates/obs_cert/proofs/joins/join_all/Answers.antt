@@ -1,6 +1,6 @@
 use Rattle.std.proofs.Common.{◌∷◌, ◌+◌, [], None, Some, drop, get_or, refl, sym, ◌∙◌, arith}
 use Rattle.std.proofs.lemmas.List.{drop_all, drop_more}
-use Rattle.obs_cert.specs.Contractions.{contracted_ends}
+use Rattle.obs_cert.specs.inner.Contractions.{contracted_ends}
 use Rattle.obs_cert.proofs.JoinLemmas.{IsJoining, joining_end, joining_none, joining_one}
 use Rattle.obs_cert.proofs.joins.join_all.Goals as goal
 use Rattle.obs_cert.proofs.joins.join_all.Goals.{in-Some, in_default, In-loop-e}

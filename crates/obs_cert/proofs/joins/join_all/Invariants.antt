@@ -1,5 +1,5 @@
 use Rattle.std.proofs.Common.{drop}
-use Rattle.obs_cert.specs.Contractions.{contracted_ends}
+use Rattle.obs_cert.specs.inner.Contractions.{contracted_ends}
 use Rattle.obs_cert.proofs.JoinLemmas.{IsJoining}
 use Rattle.obs_cert.proofs.joins.join_all.Given as goal
 

@@ -3,7 +3,7 @@ use Rattle.obs_meter.specs.Held.{Meters}
 use Rattle.obs_network.specs.Network.{Network, case_offered}
 use Rattle.obs_network.proofs.OfCase.{length-case_offered}
 use Rattle.std.specs.List.{range_with_len}
-use Rattle.obs_cert.specs.Keys.{key_of}
+use Rattle.obs_cert.specs.inner.Keys.{key_of}
 use Rattle.obs_cert.proofs.KeyLemmas.{written_all, written_more, written_none}
 use Rattle.obs_cert.proofs.keys.write_keys.Goals as goal
 use Rattle.obs_cert.proofs.keys.write_keys.Goals.{After-count-m-end}

@@ -1,5 +1,5 @@
 use Rattle.std.proofs.Common.{◌+◌, length}
-use Rattle.obs_cert.specs.Keys.{key_of}
+use Rattle.obs_cert.specs.inner.Keys.{key_of}
 use Rattle.obs_cert.proofs.KeyLemmas.{AreWritten}
 use Rattle.obs_cert.proofs.keys.write_keys.Given as goal
 

@@ -1,6 +1,6 @@
 use Rattle.std.proofs.Common.{List, sym, ◌∙◌, subst}
 use Rattle.obs_cert.specs.Claims.{Layer}
-use Rattle.obs_cert.specs.Given.{layer_said}
+use Rattle.obs_cert.specs.inner.Given.{layer_said}
 use Rattle.obs_cert.proofs.LayerLemmas.{IsLooking, looking_on}
 use Rattle.obs_cert.proofs.layers.has_outside_layer.Goals as goal
 

@@ -1,6 +1,6 @@
 use Rattle.std.proofs.Common.{◌∷◌, List, sym, ◌∙◌, subst, arith}
 use Rattle.obs_cert.specs.Claims.{Layer}
-use Rattle.obs_cert.specs.Given.{layer_said}
+use Rattle.obs_cert.specs.inner.Given.{layer_said}
 use Rattle.obs_cert.proofs.OutsideLemmas.{IsMeasuring, measuring_on, measuring_start, measuring_wrong}
 use Rattle.obs_cert.proofs.layers.has_wrong_outside.Goals as goal
 use Rattle.obs_cert.proofs.layers.has_wrong_outside.Goals.{After-from}

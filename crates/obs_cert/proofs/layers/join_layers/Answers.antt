@@ -4,10 +4,10 @@ use Rattle.obs_graph.specs.declared.Ends.{Ends}
 use Rattle.obs_network.specs.Network.{case_branches, network_of}
 use Rattle.obs_cert.specs.Claims.{Layer}
 use Rattle.obs_cert.specs.declared.contraction.Contraction.TheVariants.{Nothing}
-use Rattle.obs_cert.specs.Contractions.{contracted_ends}
+use Rattle.obs_cert.specs.inner.Contractions.{contracted_ends}
 use Rattle.obs_cert.specs.Flaws.{rank_of_items}
-use Rattle.obs_cert.specs.Given.{layer_said}
-use Rattle.obs_cert.specs.Joins.{AreJoined, onto}
+use Rattle.obs_cert.specs.inner.Given.{layer_said}
+use Rattle.obs_cert.specs.inner.Joins.{AreJoined, onto}
 use Rattle.obs_cert.specs.Numbered.{items_of}
 use Rattle.obs_cert.specs.Scopes.{touches_of}
 use Rattle.obs_cert.proofs.CaseLemmas.{contracted_noted, rank_nothing, vertices_fit}

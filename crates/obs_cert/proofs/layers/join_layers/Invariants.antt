@@ -1,8 +1,8 @@
 use Rattle.std.proofs.Common.{◌≡◌}
 use Rattle.obs_network.specs.Network.{case_branches}
 use Rattle.obs_cert.specs.declared.contraction.Contraction.TheVariants.{Nothing}
-use Rattle.obs_cert.specs.Contractions.{contracted_ends}
-use Rattle.obs_cert.specs.Hubs.{AreHubs}
+use Rattle.obs_cert.specs.inner.Contractions.{contracted_ends}
+use Rattle.obs_cert.specs.inner.Hubs.{AreHubs}
 use Rattle.obs_cert.proofs.LayerLemmas.{IsRanking}
 use Rattle.obs_cert.proofs.layers.join_layers.Given as goal
 

@@ -2,7 +2,7 @@ use Rattle.std.proofs.Common.{◌∙◌, List, ap, sym, subst}
 use Rattle.obs_case.specs.Tables.{Tables}
 use Rattle.obs_cert.specs.Claims.{Item}
 use Rattle.obs_cert.specs.Numbered.{item_of}
-use Rattle.obs_cert.specs.Said.{item_said}
+use Rattle.obs_cert.specs.inner.Said.{item_said}
 use Rattle.obs_cert.proofs.LayerLemmas.{IsSeeing, seeing_more, seeing_start}
 use Rattle.obs_cert.proofs.layers.see_items.Goals as goal
 

@@ -3,7 +3,7 @@ use Rattle.obs_graph.specs.declared.Ends.{Ends}
 use Rattle.obs_graph.specs.Graph.{Graph}
 use Rattle.obs_network.specs.Network.{case_branches}
 use Rattle.obs_network.proofs.OfCase.{few_branches}
-use Rattle.obs_cert.specs.Links.{link_at, link_of}
+use Rattle.obs_cert.specs.inner.Links.{link_at, link_of}
 use Rattle.obs_cert.proofs.KeyLemmas.{written_all, written_more, written_none}
 use Rattle.obs_cert.proofs.links.write_links.Goals as goal
 

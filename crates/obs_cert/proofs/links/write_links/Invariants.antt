@@ -1,5 +1,5 @@
 use Rattle.std.proofs.Common.{length}
-use Rattle.obs_cert.specs.Links.{link_at}
+use Rattle.obs_cert.specs.inner.Links.{link_at}
 use Rattle.obs_cert.proofs.KeyLemmas.{AreWritten}
 use Rattle.obs_cert.proofs.links.write_links.Given as goal
 

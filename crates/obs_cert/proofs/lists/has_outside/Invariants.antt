@@ -1,6 +1,6 @@
 use Rattle.std.proofs.Common.{◌≡◌}
 use Rattle.obs_cert.specs.Flaws.{not_inside}
-use Rattle.obs_cert.specs.InScope.{in_scope}
+use Rattle.obs_cert.specs.inner.InScope.{in_scope}
 use Rattle.obs_cert.specs.Numbered.{items_of}
 use Rattle.obs_cert.proofs.lists.has_outside.Given as goal
 

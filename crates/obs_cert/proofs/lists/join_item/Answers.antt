@@ -1,7 +1,7 @@
 use Rattle.std.proofs.Common.{◌≤◌, ℕ, List, length, take, sym, subst, arith}
 use Rattle.obs_network.specs.Network.{case_branches, case_vertex_count}
-use Rattle.obs_cert.specs.Contractions.{contracted_ends}
-use Rattle.obs_cert.specs.Hubs.{AreSpanned}
+use Rattle.obs_cert.specs.inner.Contractions.{contracted_ends}
+use Rattle.obs_cert.specs.inner.Hubs.{AreSpanned}
 use Rattle.obs_cert.specs.Scopes.{touches_of}
 use Rattle.obs_cert.proofs.HubLemmas.{hubs_more, hubs_same, joined_again}
 use Rattle.obs_cert.proofs.lists.join_item.Goals as goal

@@ -2,10 +2,10 @@ use Rattle.std.proofs.Common.{[], ◌++◌, ◌∙◌, List, refl, ap, arith, sy
 use Rattle.std.specs.List.{flat_map}
 use Rattle.obs_case.specs.Tables.{Tables}
 use Rattle.obs_network.specs.Network.{case_branches}
-use Rattle.obs_cert.specs.Contractions.{contracted_ends}
+use Rattle.obs_cert.specs.inner.Contractions.{contracted_ends}
 use Rattle.obs_cert.specs.Claims.{Item}
 use Rattle.obs_cert.specs.Numbered.{item_of, items_of}
-use Rattle.obs_cert.specs.Said.{item_said}
+use Rattle.obs_cert.specs.inner.Said.{item_said}
 use Rattle.obs_cert.specs.Scopes.{touches_of}
 use Rattle.obs_cert.proofs.JoinLemmas.{IsJoining, joining_end, joining_none, joining_some}
 use Rattle.obs_cert.proofs.lists.join_items.Goals as goal

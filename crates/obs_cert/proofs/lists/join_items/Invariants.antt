@@ -1,8 +1,8 @@
 use Rattle.std.proofs.Common.{◌≡◌}
 use Rattle.std.specs.List.{flat_map}
 use Rattle.obs_network.specs.Network.{case_branches}
-use Rattle.obs_cert.specs.Contractions.{contracted_ends}
-use Rattle.obs_cert.specs.Hubs.{AreHubs}
+use Rattle.obs_cert.specs.inner.Contractions.{contracted_ends}
+use Rattle.obs_cert.specs.inner.Hubs.{AreHubs}
 use Rattle.obs_cert.specs.Numbered.{items_of}
 use Rattle.obs_cert.specs.Scopes.{touches_of}
 use Rattle.obs_cert.proofs.JoinLemmas.{IsJoining}

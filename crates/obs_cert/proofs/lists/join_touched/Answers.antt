@@ -4,8 +4,8 @@ use Rattle.obs_graph.specs.Graph.{Graph}
 use Rattle.obs_meter.specs.Held.{Meters}
 use Rattle.obs_meter.specs.Touches.{touch_at}
 use Rattle.obs_network.specs.Network.{Network, case_branches, case_offered}
-use Rattle.obs_cert.specs.Contractions.{FitsIn, contracted_ends}
-use Rattle.obs_cert.specs.Joins.{AreJoined, onto}
+use Rattle.obs_cert.specs.inner.Contractions.{FitsIn, contracted_ends}
+use Rattle.obs_cert.specs.inner.Joins.{AreJoined, onto}
 use Rattle.obs_cert.specs.Scopes.{touches_of}
 use Rattle.obs_cert.proofs.ContractionLemmas.{fits_case}
 use Rattle.obs_cert.proofs.lists.join_touched.Goals as goal

@@ -1,7 +1,7 @@
 use Rattle.std.proofs.Common.{length, [], ◌∙◌, arith, refl}
 use Rattle.std.specs.List.{flat_map}
 use Rattle.obs_network.specs.Network.{case_branches, network_of}
-use Rattle.obs_cert.specs.Contractions.{contracted_ends}
+use Rattle.obs_cert.specs.inner.Contractions.{contracted_ends}
 use Rattle.obs_cert.specs.Numbered.{items_of}
 use Rattle.obs_cert.specs.Scopes.{touches_of}
 use Rattle.obs_cert.proofs.CaseLemmas.{contracted_noted, noted_few, vertices_fit}

@@ -2,7 +2,7 @@ use Rattle.std.proofs.Common.{◌≡◌, ℕ, length, not, eqb, arith, sym, ap, 
 use Rattle.std.proofs.lemmas.List.{length-map}
 use Rattle.obs_matroid.specs.Assignments.{branches}
 use Rattle.obs_case.specs.Tables.{Tables}
-use Rattle.obs_cert.specs.Joins.{AreJoined, onto}
+use Rattle.obs_cert.specs.inner.Joins.{AreJoined, onto}
 use Rattle.obs_cert.specs.Numbered.{pair_of, pairs_of}
 use Rattle.obs_cert.proofs.CaseLemmas.{case_rank, noted_few, vertices_fit}
 use Rattle.obs_cert.proofs.pairs.measure_pairs.Goals as goal

@@ -3,7 +3,7 @@ use Rattle.std.specs.List.{sum_by}
 use Rattle.obs_cert.specs.Flaws.{shows}
 use Rattle.obs_cert.specs.Numbered.{items_of}
 use Rattle.obs_cert.specs.Scopes.{price_at}
-use Rattle.obs_cert.specs.Walked.{cost_of, parts_in}
+use Rattle.obs_cert.specs.inner.Walked.{cost_of, parts_in}
 use Rattle.obs_cert.proofs.ClaimLemmas.{costs_right, counted_right}
 use Rattle.obs_cert.proofs.plans.costs.Goals as goal
 

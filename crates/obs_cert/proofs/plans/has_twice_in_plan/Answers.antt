@@ -1,7 +1,7 @@
 use Rattle.std.proofs.Common.{length, sym, ap, ◌∙◌}
 use Rattle.obs_cert.specs.Flaws.{all_inside, paired_twice, twice}
 use Rattle.obs_cert.specs.Numbered.{chosen_items, items_of}
-use Rattle.obs_cert.specs.Walked.{parts_in}
+use Rattle.obs_cert.specs.inner.Walked.{parts_in}
 use Rattle.obs_cert.proofs.ClaimLemmas.{ready_plan, three_same}
 use Rattle.obs_cert.proofs.plans.has_twice_in_plan.Goals as goal
 

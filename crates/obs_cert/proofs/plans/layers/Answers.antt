@@ -4,7 +4,7 @@ use Rattle.obs_case.specs.Tables.{Tables}
 use Rattle.obs_network.specs.Network.{rows_of}
 use Rattle.obs_cert.specs.Flaws.{Listed, costs_clauses, first_true, listed_layers, wrong_outside}
 use Rattle.obs_cert.specs.Scopes.{is_below}
-use Rattle.obs_cert.specs.Walked.{cost_of, parts_in}
+use Rattle.obs_cert.specs.inner.Walked.{cost_of, parts_in}
 use Rattle.obs_cert.proofs.ClaimLemmas.{free_of, layers_outside, layers_rank, layers_rest, ready_hubs, ready_joined}
 use Rattle.obs_cert.proofs.plans.layers.Goals as goal
 

@@ -1,9 +1,9 @@
 use Rattle.std.proofs.Common.{◌≡◌, ℕ, ◌||◌, Bool, true, false, suc, refl, sym, ap, ◌∙◌, subst}
 use Rattle.obs_case.specs.Tables.{Tables}
-use Rattle.obs_cert.specs.Ready.{IsReady}
+use Rattle.obs_cert.specs.inner.Ready.{IsReady}
 use Rattle.obs_cert.specs.Flaws.{all_inside, layers_clauses, not_touched, paired_twice, twice, outside_of_plan, twice_in_plan, unknown_in_plan}
 use Rattle.obs_cert.specs.Numbered.{chosen_items, items_of, pairs_of}
-use Rattle.obs_cert.specs.Walked.{cost_of, parts_in}
+use Rattle.obs_cert.specs.inner.Walked.{cost_of, parts_in}
 use Rattle.obs_network.specs.Network.{Network, case_needed, network_of}
 use Rattle.obs_cert.specs.Flaws.{first_true, forest_clauses}
 use Rattle.obs_cert.proofs.ClaimLemmas.{plan_layers, plan_outside, plan_rest, plan_touched, plan_twice, ready_later}

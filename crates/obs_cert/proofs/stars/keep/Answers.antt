@@ -2,7 +2,7 @@ use Rattle.std.proofs.Common.{◌≡◌, ◌∙◌, ◌+◌, ◌<◌, ℕ, List,
 use Rattle.std.proofs.lemmas.Bool.{cases_eq}
 use Rattle.std.proofs.lemmas.List.{get_or-set_same, get_or-set_other}
 use Rattle.obs_case.specs.Tables.{Tables}
-use Rattle.obs_cert.specs.Stars.{AreStarRanks, star_rank}
+use Rattle.obs_cert.specs.inner.Stars.{AreStarRanks, star_rank}
 use Rattle.obs_cert.proofs.stars.keep.Goals as goal
 
 -- one more rank is known

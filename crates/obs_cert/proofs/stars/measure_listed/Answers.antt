@@ -5,11 +5,11 @@ use Rattle.obs_graph.proofs.Ranks.{rank-le-n}
 use Rattle.obs_network.specs.Network.{case_branches, case_vertex_count}
 use Rattle.obs_network.proofs.OfCase.{case_vertex_count-le}
 use Rattle.obs_cert.specs.declared.contraction.Contraction.TheVariants.{Nothing, Star}
-use Rattle.obs_cert.specs.Contractions.{contracted_rank}
+use Rattle.obs_cert.specs.inner.Contractions.{contracted_rank}
 use Rattle.obs_cert.specs.Flaws.{rank_of_items}
 use Rattle.obs_cert.specs.Numbered.{items_of}
 use Rattle.obs_cert.specs.Scopes.{touches_of}
-use Rattle.obs_cert.specs.Walked.{parts_in}
+use Rattle.obs_cert.specs.inner.Walked.{parts_in}
 use Rattle.obs_cert.proofs.CaseLemmas.{rank_nothing}
 use Rattle.obs_cert.proofs.ContractionLemmas.{rank_contracted}
 use Rattle.obs_cert.proofs.stars.measure_listed.Goals as goal

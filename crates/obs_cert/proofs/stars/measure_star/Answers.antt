@@ -4,10 +4,10 @@ use Rattle.obs_meter.specs.Held.{Meters}
 use Rattle.obs_meter.specs.Touches.{touch_at}
 use Rattle.obs_network.specs.Network.{Network, case_branches, case_offered, network_of}
 use Rattle.obs_cert.specs.declared.contraction.Contraction.TheVariants.{Nothing}
-use Rattle.obs_cert.specs.Contractions.{contracted_ends}
+use Rattle.obs_cert.specs.inner.Contractions.{contracted_ends}
 use Rattle.obs_cert.specs.Flaws.{rank_of_branches}
-use Rattle.obs_cert.specs.Joins.{AreJoined, onto}
-use Rattle.obs_cert.specs.Stars.{star_rank}
+use Rattle.obs_cert.specs.inner.Joins.{AreJoined, onto}
+use Rattle.obs_cert.specs.inner.Stars.{star_rank}
 use Rattle.obs_cert.proofs.CaseLemmas.{case_rank, noted_few, vertices_fit}
 use Rattle.obs_cert.proofs.ContractionLemmas.{contracted_nothing}
 use Rattle.obs_cert.proofs.stars.measure_star.Goals as goal

@@ -7,7 +7,7 @@ use Rattle.obs_meter.specs.declared.Hub.{Hub}
 use Rattle.obs_meter.specs.declared.Touch.{Touch}
 use Rattle.obs_meter.specs.declared.Touch.TheVariants.{Nothing}
 use Rattle.obs_meter.specs.Held.{Meters}
-use Rattle.obs_meter.specs.Touches.{hub_of}
+use Rattle.obs_meter.specs.inner.Touches.{hub_of}
 use Rattle.obs_network.specs.Network.{Network, case_branches, case_offered, case_rows}
 use Rattle.obs_cert.specs.Scopes.{touches_of}
 use Rattle.obs_cert.proofs.StarLemmas.{rows_at_hub}

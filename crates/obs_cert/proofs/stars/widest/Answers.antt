@@ -3,7 +3,7 @@ use Rattle.obs_case.specs.Tables.{Tables}
 use Rattle.obs_matroid.specs.Lists.{In}
 use Rattle.obs_cert.specs.Claims.{Item}
 use Rattle.obs_cert.specs.Numbered.{item_of, items_of}
-use Rattle.obs_cert.specs.Said.{item_said}
+use Rattle.obs_cert.specs.inner.Said.{item_said}
 use Rattle.obs_cert.proofs.stars.widest.Goals as goal
 
 pub loop-item-init : goal.loop-item-init

@@ -3,7 +3,7 @@ use Rattle.std.specs.Prelude.{IfSome}
 use Rattle.obs_matroid.specs.Lists.{In}
 use Rattle.obs_cert.specs.declared.stars.Injection.{Injection}
 use Rattle.obs_cert.specs.Numbered.{items_of}
-use Rattle.obs_cert.specs.Stars.{IsInjection}
+use Rattle.obs_cert.specs.inner.Stars.{IsInjection}
 use Rattle.obs_cert.proofs.stars.widest.Given as goal
 
 abbrev pub invariant-loop-item : goal.invariant-loop-item

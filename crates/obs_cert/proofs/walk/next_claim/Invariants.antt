@@ -1,5 +1,5 @@
 use Rattle.std.proofs.Common.{◌≡◌, length}
-use Rattle.obs_cert.specs.Walked.{lines_in, parts_in}
+use Rattle.obs_cert.specs.inner.Walked.{lines_in, parts_in}
 use Rattle.obs_cert.proofs.walk.next_claim.Given as goal
 
 abbrev pub invariant-loop-line : goal.invariant-loop-line

@@ -1,6 +1,6 @@
 use Rattle.std.proofs.Common.{Option, sym, ap, ◌∙◌}
 use Rattle.obs_text.specs.Lines.{lines_of}
-use Rattle.obs_cert.specs.Walked.{said_line, said_lines}
+use Rattle.obs_cert.specs.inner.Walked.{said_line, said_lines}
 use Rattle.obs_cert.specs.Words.{Line}
 use Rattle.obs_cert.proofs.walk.next_line.Goals as goal
 

@@ -1,6 +1,6 @@
 use Rattle.std.proofs.Common.{◌≡◌, ◌++◌, ◌∙◌, ap, length, take, drop}
 use Rattle.obs_graph.proofs.Stored.{written_back}
-use Rattle.obs_assign.specs.Assignment.{has_flag}
+use Rattle.obs_assign.specs.inner.Assignment.{has_flag}
 use Rattle.obs_critical.proofs.Marks.{unmarked_critical}
 use Rattle.obs_critical.proofs.critical_meters.find_critical.Goals as goal
 use Rattle.obs_critical.proofs.critical_meters.find_critical.Goals.{After-list_unmarked-work-inside}

@@ -1,6 +1,6 @@
 use Rattle.std.proofs.Common.{◌<◌, ℕ, Bool, length, sym, ◌∙◌, arith}
-use Rattle.obs_assign.specs.Assignment.{has_flag}
-use Rattle.obs_critical.specs.Listed.{is_unmarked_pair}
+use Rattle.obs_assign.specs.inner.Assignment.{has_flag}
+use Rattle.obs_critical.specs.inner.Listed.{is_unmarked_pair}
 use Rattle.obs_critical.proofs.Passing.{Passed-listed, Passed-over}
 use Rattle.obs_critical.proofs.critical_meters.list_unmarked.Goals as goal
 use Rattle.obs_critical.proofs.critical_meters.list_unmarked.Goals.{else-is_listed, then-is_listed}

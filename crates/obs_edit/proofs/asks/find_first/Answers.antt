@@ -1,6 +1,6 @@
 use Rattle.std.proofs.Common.{◌∙◌, subst, sym}
 use Rattle.obs_graph.specs.Graph.{Graph}
-use Rattle.obs_assign.specs.Assignment.{StandsOver}
+use Rattle.obs_assign.specs.inner.Assignment.{StandsOver}
 use Rattle.obs_meter.specs.Held.{Meters}
 use Rattle.obs_network.specs.Network.{case_meters}
 use Rattle.obs_edit.proofs.Answered.{IsLongest-first, first_of_network}

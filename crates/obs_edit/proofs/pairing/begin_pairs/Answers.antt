@@ -1,5 +1,6 @@
 use Rattle.std.proofs.Common.{ap, length, ◌∙◌}
-use Rattle.obs_assign.specs.Assignment.{Assignment, is_frozen}
+use Rattle.obs_assign.specs.Assignment.{Assignment}
+use Rattle.obs_assign.specs.inner.Assignment.{is_frozen}
 use Rattle.obs_assign.proofs.Keeping.{flags_clear}
 use Rattle.obs_edit.proofs.pairing.begin_pairs.Goals as goal
 

@@ -1,5 +1,5 @@
 use Rattle.std.proofs.Common.{◌≤◌, arith}
-use Rattle.obs_assign.specs.Assignment.{has_flag}
+use Rattle.obs_assign.specs.inner.Assignment.{has_flag}
 use Rattle.obs_exchange.proofs.Lawful.{closed_rho}
 use Rattle.obs_exchange.proofs.Lengthening.{closed_at_last, closed_set, thawed-lengthened}
 use Rattle.obs_edit.proofs.pairing.pair_first.Goals as goal

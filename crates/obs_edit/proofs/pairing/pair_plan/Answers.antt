@@ -1,9 +1,9 @@
 use Rattle.std.proofs.Common.{ap, length, not, sym, subst, ◌∙◌, arith}
-use Rattle.obs_meter.specs.Sizes.{HasRoomFor}
-use Rattle.obs_meter.specs.Touches.{AreInRange}
+use Rattle.obs_meter.specs.inner.Sizes.{HasRoomFor}
+use Rattle.obs_meter.specs.inner.Touches.{AreInRange}
 use Rattle.obs_meter.proofs.Lost.{in_range-losing, room-losing}
 use Rattle.obs_forest.specs.Forest.{has_position}
-use Rattle.obs_assign.specs.Assignment.{Fits, StandsOver}
+use Rattle.obs_assign.specs.inner.Assignment.{Fits, StandsOver}
 use Rattle.obs_exchange.proofs.Losing.{stands-all}
 use Rattle.obs_edit.specs.Planned.{planned_items}
 use Rattle.obs_edit.proofs.Planned.{length-touches_of}

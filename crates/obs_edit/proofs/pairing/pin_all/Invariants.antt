@@ -1,4 +1,4 @@
-use Rattle.obs_assign.specs.Assignment.{HasRoomOf, StandsOver}
+use Rattle.obs_assign.specs.inner.Assignment.{HasRoomOf, StandsOver}
 use Rattle.obs_edit.proofs.pairing.pin_all.Given as goal
 
 abbrev pub invariant-loop-m : goal.invariant-loop-m

@@ -3,7 +3,7 @@ use Rattle.obs_case.specs.Tables.{Tables}
 use Rattle.obs_graph.specs.Graph.{Graph}
 use Rattle.obs_meter.specs.Held.{Meters}
 use Rattle.obs_network.specs.Network.{Network, case_offered}
-use Rattle.obs_assign.specs.Assignment.{StandsOver}
+use Rattle.obs_assign.specs.inner.Assignment.{StandsOver}
 use Rattle.obs_placement.specs.Placed.{placement_of}
 use Rattle.obs_edit.specs.Planned.{placed_pairs}
 use Rattle.obs_edit.proofs.Offered.{at_case, offered_count, room_of_offered}

@@ -1,8 +1,10 @@
 use Rattle.std.proofs.Common.{◌∙◌, ap, subst, sym}
 use Rattle.obs_case.specs.Tables.{Tables}
-use Rattle.obs_placement.specs.Placed.{Placed, placed_of}
-use Rattle.obs_matroid.specs.Slots.{pairs_of}
-use Rattle.obs_report.specs.Placements.{ArePairsOf, IsWithin, placement_text}
+use Rattle.obs_placement.specs.Placed.{Placed}
+use Rattle.obs_placement.specs.inner.Placed.{placed_of}
+use Rattle.obs_matroid.specs.inner.Slots.{pairs_of}
+use Rattle.obs_report.specs.Placements.{placement_text}
+use Rattle.obs_report.specs.inner.Placements.{ArePairsOf, IsWithin}
 use Rattle.obs_report.proofs.OfPairs.{standing_pairs}
 use Rattle.obs_engine.specs.declared.blocks.Block.TheVariants.{Placement}
 use Rattle.obs_engine.specs.Asks.{block_text}

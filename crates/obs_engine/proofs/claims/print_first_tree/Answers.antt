@@ -1,6 +1,6 @@
 use Rattle.std.proofs.Common.{◌∙◌, ap, arith}
 use Rattle.obs_case.specs.Tables.{Tables}
-use Rattle.obs_matroid.specs.Slots.{pairs_of}
+use Rattle.obs_matroid.specs.inner.Slots.{pairs_of}
 use Rattle.obs_network.specs.Network.{case_component_count}
 use Rattle.obs_report.specs.Trees.{tree_text}
 use Rattle.obs_engine.specs.Asks.{tree_claim}

@@ -1,6 +1,7 @@
 use Rattle.std.proofs.Common.{◌∙◌, ap, arith}
 use Rattle.obs_case.specs.Tables.{Tables}
-use Rattle.obs_assign.specs.Assignment.{Assignment, pairs}
+use Rattle.obs_assign.specs.Assignment.{Assignment}
+use Rattle.obs_assign.specs.inner.Assignment.{pairs}
 use Rattle.obs_report.specs.Trees.{tree_text}
 use Rattle.obs_network.proofs.OfCase.{count_of}
 use Rattle.obs_engine.proofs.Asked.{appends_as, lone_tree_is}

@@ -2,7 +2,7 @@ use Rattle.std.proofs.Common.{◌∙◌, arith, ap, subst, sym, Err, inl, inr, r
 use Rattle.obs_engine.specs.Commands.{IsCaseReply}
 use Rattle.obs_files.specs.Files.{case_in_files, certificate_in}
 use Rattle.obs_files.specs.Limits.{Limits}
-use Rattle.obs_files.specs.Taken.{IsCaseError}
+use Rattle.obs_files.specs.inner.Taken.{IsCaseError}
 use Rattle.obs_engine.specs.Stated.{Tells, Told}
 use Rattle.obs_engine.proofs.Commanded.{answered_by, answered_ran, nothing_taken}
 use Rattle.obs_engine.proofs.Endings.{behind_of, complete_stated, ends_stated}

@@ -1,6 +1,7 @@
 use Rattle.std.proofs.Common.{◌≡◌, ◌∙◌, ap, List, subst, sym, true, ℕ}
 use Rattle.std.proofs.lemmas.List.{append-nil}
-use Rattle.obs_script.specs.Gathered.{Holds, content_of}
+use Rattle.obs_script.specs.Gathered.{content_of}
+use Rattle.obs_script.specs.inner.Gathered.{Holds}
 use Rattle.obs_text.specs.Lines.{is_feed}
 use Rattle.obs_engine.specs.Lines.{line_text, lines_case, lines_text}
 use Rattle.obs_engine.proofs.Asked.{appends_as}

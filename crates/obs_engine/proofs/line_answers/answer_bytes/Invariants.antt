@@ -1,5 +1,5 @@
 use Rattle.std.proofs.Common.{◌≡◌, List, take, ℕ}
-use Rattle.obs_script.specs.Gathered.{Holds}
+use Rattle.obs_script.specs.inner.Gathered.{Holds}
 use Rattle.obs_engine.proofs.Lined.{Fed}
 use Rattle.obs_engine.proofs.line_answers.answer_bytes.Given as goal
 

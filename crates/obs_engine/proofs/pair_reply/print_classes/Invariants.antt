@@ -1,6 +1,6 @@
 use Rattle.std.proofs.Common.{◌≡◌, ◌++◌, ◌-◌, ℕ, List, length}
 use Rattle.std.specs.List.{range_with_len}
-use Rattle.obs_report.specs.Printed.{Prints}
+use Rattle.obs_report.specs.inner.Printed.{Prints}
 use Rattle.obs_engine.specs.PairReply.{class_lines}
 use Rattle.obs_engine.proofs.pair_reply.print_classes.Given as goal
 

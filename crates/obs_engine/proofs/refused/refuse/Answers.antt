@@ -1,6 +1,6 @@
 use Rattle.std.proofs.Common.{◌≡◌, List, ℕ, refl}
 use Rattle.obs_report.specs.Lines.{fault_line}
-use Rattle.obs_text.specs.Faults.{fault_of}
+use Rattle.obs_text.specs.inner.Faults.{fault_of}
 use Rattle.obs_files.specs.declared.status.Status.TheVariants.{InputFault}
 use Rattle.obs_engine.specs.Replies.{fault_reply}
 use Rattle.obs_engine.proofs.Asked.{appends_as}

@@ -2,7 +2,7 @@ use Rattle.std.proofs.Common.{◌+◌, length, ap, subst, sym, Err, Option}
 use Rattle.obs_files.specs.declared.status.Status.TheVariants.{NoMemory, ReadFault}
 use Rattle.obs_files.specs.declared.words.Form.{Form}
 use Rattle.obs_files.specs.Outside.{AreFiles, IsFileWord, ReadFailed}
-use Rattle.obs_engine.specs.Forms.{CanRefuse}
+use Rattle.obs_engine.specs.inner.Forms.{CanRefuse}
 use Rattle.obs_engine.specs.Replies.{Reply}
 use Rattle.obs_files.specs.Words.{file_words, offers}
 use Rattle.obs_engine.proofs.Staying.{begins-counted, begins-other, begins-refused, begins-usage, no_read, no_write, refused_by_files, refuses, refuses-counted, status_is, usage_no_memory, usage_no_read, usage_of_others, usage_of_words}

@@ -1,6 +1,6 @@
 use Rattle.std.proofs.Common.{subst, sym}
 use Rattle.obs_case.specs.Tables.{Tables}
-use Rattle.obs_engine.specs.Trials.{AreInService}
+use Rattle.obs_engine.specs.inner.Trials.{AreInService}
 use Rattle.obs_engine.proofs.Begun.{task_begun, task_without_memory}
 use Rattle.obs_engine.proofs.Summed.{not_for_memory}
 use Rattle.obs_engine.proofs.tasks.do_counted.Goals as goal

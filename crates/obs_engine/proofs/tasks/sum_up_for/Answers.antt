@@ -2,7 +2,8 @@ use Rattle.std.proofs.Common.{Some, ap, sym, ◌∙◌}
 use Rattle.obs_case.specs.Tables.{Tables}
 use Rattle.obs_notice.specs.declared.summary.Summary.{Summary}
 use Rattle.obs_engine.specs.declared.tasks.Task.{Task}
-use Rattle.obs_engine.specs.Summaries.{summary_of, task_summary}
+use Rattle.obs_engine.specs.Summaries.{summary_of}
+use Rattle.obs_engine.specs.inner.Summaries.{task_summary}
 use Rattle.obs_engine.proofs.tasks.sum_up_for.Goals as goal
 
 pub returns-in-Ok : goal.returns-in-Ok

@@ -1,9 +1,9 @@
 use Rattle.std.proofs.Common.{◌∙◌, ap, arith, subst, ℕ}
 use Rattle.obs_case.specs.Tables.{Tables}
 use Rattle.obs_engine.specs.Asks.{report_status}
-use Rattle.obs_engine.specs.Replies.{RepliedAt}
+use Rattle.obs_engine.specs.inner.Replies.{RepliedAt}
 use Rattle.obs_engine.specs.Trials.{trial_reply}
-use Rattle.obs_engine.specs.Turns.{AreSearches}
+use Rattle.obs_engine.specs.inner.Turns.{AreSearches}
 use Rattle.obs_engine.proofs.Asked.{appends_as}
 use Rattle.obs_engine.proofs.Replied.{replied_verdict, report_status-is}
 use Rattle.obs_engine.proofs.Turned.{rose_by, searches_are, trial_is}

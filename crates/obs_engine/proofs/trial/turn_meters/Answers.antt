@@ -3,7 +3,8 @@ use Rattle.std.specs.Prelude.{if◌then◌else◌}
 use Rattle.obs_case.specs.Tables.{IsValid, Tables}
 use Rattle.obs_network.specs.Observable.{case_rank}
 use Rattle.obs_network.proofs.OfCase.{few_meters}
-use Rattle.obs_engine.specs.Trials.{AreInService, is_dip}
+use Rattle.obs_engine.specs.Trials.{is_dip}
+use Rattle.obs_engine.specs.inner.Trials.{AreInService}
 use Rattle.obs_engine.proofs.Turned.{dips_are_counted, turned_all, turned_few, turned_none, turned_one, turns_all, turns_more}
 use Rattle.obs_engine.proofs.trial.turn_meters.Goals as goal
 

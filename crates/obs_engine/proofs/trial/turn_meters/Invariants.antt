@@ -1,6 +1,6 @@
 use Rattle.std.proofs.Common.{◌≡◌, ◌+◌, length}
 use Rattle.obs_engine.specs.Trials.{is_dip}
-use Rattle.obs_engine.specs.Turns.{AreTurns}
+use Rattle.obs_engine.specs.inner.Turns.{AreTurns}
 use Rattle.obs_engine.proofs.Turned.{AreTurned}
 use Rattle.obs_engine.proofs.trial.turn_meters.Given as goal
 

@@ -2,12 +2,14 @@ use Rattle.std.proofs.Common.{◌≡◌, ◌∙◌, List, Result, Some, ap, sym}
 use Rattle.std.specs.Prelude.{option_map}
 use Rattle.obs_case.specs.Tables.{Tables}
 use Rattle.obs_cert.specs.Claims.{Claim}
-use Rattle.obs_cert.specs.Faults.{cert_end_fault, cert_fault}
-use Rattle.obs_cert.specs.Read.{EndsCert}
+use Rattle.obs_cert.specs.Faults.{cert_fault}
+use Rattle.obs_cert.specs.inner.Faults.{cert_end_fault}
+use Rattle.obs_cert.specs.inner.Read.{EndsCert}
 use Rattle.obs_cert.specs.declared.fault.CertEnd.{CertEnd}
 use Rattle.obs_cert.specs.declared.fault.CertEnd.TheVariants.{Fault as FaultEnd, NoMemory}
 use Rattle.obs_cert.specs.declared.fault.CertFault.{CertFault}
-use Rattle.obs_text.specs.Faults.{Fault, fault_of}
+use Rattle.obs_text.specs.Faults.{Fault}
+use Rattle.obs_text.specs.inner.Faults.{fault_of}
 use Rattle.obs_engine.specs.Replies.{fault_reply}
 use Rattle.obs_engine.specs.Verify.{claims_reply}
 use Rattle.obs_engine.proofs.Endings.{replied_as, replied_memory}

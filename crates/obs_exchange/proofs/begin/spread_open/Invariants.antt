@@ -1,5 +1,5 @@
 use Rattle.std.proofs.Common.{◌-◌, ◌≤◌}
-use Rattle.obs_exchange.specs.Searching.{IsDone, RunsOn}
+use Rattle.obs_exchange.specs.inner.Searching.{IsDone, RunsOn}
 use Rattle.obs_exchange.proofs.begin.spread_open.Given as goal
 
 abbrev pub invariant-loop-m : goal.invariant-loop-m

@@ -1,7 +1,7 @@
 use Rattle.std.proofs.Common.{◌≡◌, ℕ, ◌-◌, ◌<◌, ◌≤◌, true}
-use Rattle.obs_assign.specs.Assignment.{has_flag}
-use Rattle.obs_exchange.specs.Searching.{IsDone, RunsOn}
-use Rattle.obs_exchange.specs.Setting.{IsSourceIn}
+use Rattle.obs_assign.specs.inner.Assignment.{has_flag}
+use Rattle.obs_exchange.specs.inner.Searching.{IsDone, RunsOn}
+use Rattle.obs_exchange.specs.inner.Setting.{IsSourceIn}
 use Rattle.obs_exchange.proofs.begin.spread_range.Given as goal
 
 abbrev pub invariant-loop-m : goal.invariant-loop-m

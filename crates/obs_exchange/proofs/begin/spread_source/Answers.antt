@@ -1,7 +1,7 @@
 use Rattle.std.proofs.Common.{◌<◌, true, None, length, set, sym, ◌∙◌, inl, subst, arith}
 use Rattle.obs_exchange.proofs.Beginning.{source_thawed}
 use Rattle.obs_exchange.proofs.Queued.{IsSearching-source, flag-kept, source_room}
-use Rattle.obs_exchange.specs.Trail.{AreLed, Follows, Trail, pushed}
+use Rattle.obs_exchange.specs.inner.Trail.{AreLed, Follows, Trail, pushed}
 use Rattle.obs_exchange.proofs.Trails.{Follows-push, Follows-then, RunsOn-same, led_but_pushed}
 use Rattle.obs_exchange.proofs.Upward.{AreClasses-kept}
 use Rattle.obs_exchange.proofs.begin.spread_source.Goals as goal

@@ -3,10 +3,10 @@ use Rattle.std.proofs.lemmas.List.{length-set}
 use Rattle.std.proofs.lemmas.List.Elements.{All-set}
 use Rattle.obs_meter.specs.declared.Touch.{Touch}
 use Rattle.obs_meter.specs.declared.Touch.TheVariants.{Nothing}
-use Rattle.obs_meter.specs.Sizes.{HasRoomFor, Sizes}
-use Rattle.obs_meter.specs.Touches.{AreInRange, IsInRange}
-use Rattle.obs_assign.specs.Assignment.{StandsOver}
-use Rattle.obs_exchange.specs.Found.{IsFound, Work}
+use Rattle.obs_meter.specs.inner.Sizes.{HasRoomFor, Sizes}
+use Rattle.obs_meter.specs.inner.Touches.{AreInRange, IsInRange}
+use Rattle.obs_assign.specs.inner.Assignment.{StandsOver}
+use Rattle.obs_exchange.specs.inner.Found.{IsFound, Work}
 use Rattle.obs_exchange.proofs.Changing.{StandsOver-changed, set_back}
 use Rattle.obs_exchange.proofs.changed.search_by.Goals as goal
 

@@ -1,6 +1,6 @@
 use Rattle.std.proofs.Common.{ap, subst, sym, ◌∙◌}
-use Rattle.obs_meter.specs.Sizes.{HasRoomFor, Sizes}
-use Rattle.obs_exchange.specs.Found.{Work}
+use Rattle.obs_meter.specs.inner.Sizes.{HasRoomFor, Sizes}
+use Rattle.obs_exchange.specs.inner.Found.{Work}
 use Rattle.obs_exchange.proofs.Noting.{AreNoted-all}
 use Rattle.obs_exchange.proofs.exchange.search.Goals as goal
 

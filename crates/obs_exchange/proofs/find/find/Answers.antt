@@ -1,7 +1,7 @@
 use Rattle.std.proofs.Common.{◌≤◌, ◌-◌, length, length-set, sym, ap, ◌∙◌, subst, arith}
 use Rattle.obs_exchange.specs.declared.Sources.{Sources}
-use Rattle.obs_exchange.specs.Searching.{IsAsLarge, IsReady}
-use Rattle.obs_exchange.specs.Setting.{first_of}
+use Rattle.obs_exchange.specs.inner.Searching.{IsAsLarge, IsReady}
+use Rattle.obs_exchange.specs.inner.Setting.{first_of}
 use Rattle.obs_exchange.proofs.Closing.{AreListed-queue, IsLeastClosedAt-search, tail_low}
 use Rattle.obs_exchange.proofs.Growing.{IsReady-one}
 use Rattle.obs_exchange.proofs.Shut.{IsReady-shut}

@@ -1,8 +1,8 @@
 use Rattle.std.proofs.Common.{◌≡◌, length, false, sym, ap, ◌∙◌, arith}
 use Rattle.std.proofs.lemmas.List.{length-replicate}
 use Rattle.obs_assign.proofs.Keeping.{replicate_at}
-use Rattle.obs_assign.specs.Assignment.{has_flag}
-use Rattle.obs_exchange.specs.Trail.{Trail}
+use Rattle.obs_assign.specs.inner.Assignment.{has_flag}
+use Rattle.obs_exchange.specs.inner.Trail.{Trail}
 use Rattle.obs_exchange.proofs.Beginning.{AreStarred-start, IsSearching-start}
 use Rattle.obs_exchange.proofs.Upward.{AreClasses-own}
 use Rattle.obs_exchange.proofs.find.start_anew.Goals as goal

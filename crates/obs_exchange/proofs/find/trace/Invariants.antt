@@ -1,5 +1,5 @@
-use Rattle.obs_exchange.specs.Searching.{IsEnd}
-use Rattle.obs_exchange.specs.Setting.{Setting}
+use Rattle.obs_exchange.specs.inner.Searching.{IsEnd}
+use Rattle.obs_exchange.specs.inner.Setting.{Setting}
 use Rattle.obs_exchange.proofs.Tracing.{IsTracing}
 use Rattle.obs_exchange.proofs.find.trace.Given as goal
 

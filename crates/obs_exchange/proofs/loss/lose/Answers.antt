@@ -3,7 +3,7 @@ use Rattle.std.specs.Prelude.{slice_index_or}
 use Rattle.std.proofs.lemmas.List.{take_all}
 use Rattle.std.proofs.lemmas.List.Elements.{All-get_or}
 use Rattle.obs_meter.specs.Lost.{is_listed, losing}
-use Rattle.obs_assign.specs.Assignment.{branch_at}
+use Rattle.obs_assign.specs.inner.Assignment.{branch_at}
 use Rattle.obs_exchange.proofs.Losing.{AreLost-more, AreLost-none, AreLost-same}
 use Rattle.obs_exchange.proofs.loss.lose.Goals as goal
 

@@ -1,5 +1,5 @@
 use Rattle.std.proofs.Common.{◌≡◌, ℕ, ◌-◌, ◌<◌, ◌≤◌, false}
-use Rattle.obs_assign.specs.Assignment.{has_flag}
+use Rattle.obs_assign.specs.inner.Assignment.{has_flag}
 use Rattle.obs_exchange.proofs.noted.next_flag.Given as goal
 
 abbrev pub invariant-loop-m : goal.invariant-loop-m

@@ -1,5 +1,5 @@
 use Rattle.std.proofs.Common.{◌≡◌, length}
-use Rattle.obs_exchange.specs.Noting.{AreBlocks, HasFlags}
+use Rattle.obs_exchange.specs.inner.Noting.{AreBlocks, HasFlags}
 use Rattle.obs_exchange.proofs.noted.put_sources.Given as goal
 
 abbrev pub invariant-loop-m : goal.invariant-loop-m

@@ -1,5 +1,5 @@
-use Rattle.obs_exchange.specs.Ordered.{IsPlacing}
-use Rattle.obs_exchange.specs.Searching.{IsAsLarge}
+use Rattle.obs_exchange.specs.inner.Ordered.{IsPlacing}
+use Rattle.obs_exchange.specs.inner.Searching.{IsAsLarge}
 use Rattle.obs_exchange.proofs.ordered.spread_in_order.Given as goal
 
 abbrev pub invariant-loop-k : goal.invariant-loop-k

@@ -1,8 +1,8 @@
 use Rattle.std.proofs.Common.{subst, ◌≤◌, length}
 use Rattle.std.specs.Prelude.{MatchBool}
-use Rattle.obs_assign.specs.Assignment.{pairs}
+use Rattle.obs_assign.specs.inner.Assignment.{pairs}
 use Rattle.obs_exchange.specs.declared.Sources.TheVariants.{All}
-use Rattle.obs_exchange.specs.Found.{HasClosed}
+use Rattle.obs_exchange.specs.inner.Found.{HasClosed}
 use Rattle.obs_exchange.proofs.Lengthening.{thawed-lengthened}
 use Rattle.obs_exchange.proofs.Longest.{IsLongest-ended}
 use Rattle.obs_exchange.proofs.regrown.regrow.Goals as goal

@@ -1,6 +1,6 @@
 use Rattle.std.proofs.Common.{ap}
 use Rattle.obs_exchange.specs.declared.Sources.TheVariants.{All}
-use Rattle.obs_exchange.specs.Found.{Work}
+use Rattle.obs_exchange.specs.inner.Found.{Work}
 use Rattle.obs_exchange.proofs.Noting.{AreNoted-all}
 use Rattle.obs_exchange.proofs.repeated.lengthen.Goals as goal
 

@@ -1,7 +1,7 @@
 use Rattle.std.proofs.Common.{◌≡◌, ◌+◌, ◌-◌, ◌≤◌, length}
-use Rattle.obs_assign.specs.Assignment.{pairs}
+use Rattle.obs_assign.specs.inner.Assignment.{pairs}
 use Rattle.obs_exchange.specs.declared.Sources.TheVariants.{All}
-use Rattle.obs_exchange.specs.Noting.{AreNoted}
+use Rattle.obs_exchange.specs.inner.Noting.{AreNoted}
 use Rattle.obs_exchange.proofs.Lengthening.{IsLengthening}
 use Rattle.obs_exchange.proofs.repeated.lengthen_from.Given as goal
 

@@ -1,9 +1,9 @@
 use Rattle.std.proofs.Common.{◌≡◌, ◌∙◌, false, set, sym, ap, subst, arith}
-use Rattle.obs_meter.specs.Sizes.{Sizes}
+use Rattle.obs_meter.specs.inner.Sizes.{Sizes}
 use Rattle.obs_meter.proofs.Live.{live_low}
 use Rattle.obs_exchange.specs.declared.Sources.TheVariants.{All}
-use Rattle.obs_exchange.specs.Found.{Work}
-use Rattle.obs_exchange.specs.Noting.{AreNoted, Noted}
+use Rattle.obs_exchange.specs.inner.Found.{Work}
+use Rattle.obs_exchange.specs.inner.Noting.{AreNoted, Noted}
 use Rattle.obs_exchange.proofs.Noting.{AreNoted-grown}
 use Rattle.obs_exchange.proofs.repeated.search_noted.Goals as goal
 

@@ -1,5 +1,5 @@
 use Rattle.std.proofs.Common.{◌≡◌, length}
-use Rattle.obs_exchange.specs.Blank.{AreLedFrom}
+use Rattle.obs_exchange.specs.inner.Blank.{AreLedFrom}
 use Rattle.obs_exchange.proofs.tops.lead_back.Given as goal
 
 abbrev pub invariant-loop-i : goal.invariant-loop-i

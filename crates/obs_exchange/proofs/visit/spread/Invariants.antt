@@ -1,6 +1,6 @@
 use Rattle.std.proofs.Common.{◌-◌, length}
-use Rattle.obs_exchange.specs.Searching.{RunsOn}
-use Rattle.obs_exchange.specs.Trail.{AreLed}
+use Rattle.obs_exchange.specs.inner.Searching.{RunsOn}
+use Rattle.obs_exchange.specs.inner.Trail.{AreLed}
 use Rattle.obs_exchange.proofs.visit.spread.Given as goal
 
 abbrev pub invariant-loop-search : goal.invariant-loop-search

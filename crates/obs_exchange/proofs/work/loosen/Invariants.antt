@@ -1,5 +1,5 @@
 use Rattle.std.proofs.Common.{◌≡◌, ℕ, ◌<◌, true, length}
-use Rattle.obs_assign.specs.Assignment.{has_flag}
+use Rattle.obs_assign.specs.inner.Assignment.{has_flag}
 use Rattle.obs_exchange.proofs.work.loosen.Given as goal
 
 abbrev pub invariant-loop-m : goal.invariant-loop-m

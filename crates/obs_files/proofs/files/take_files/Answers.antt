@@ -1,9 +1,9 @@
 use Rattle.std.proofs.Common.{◌∙◌, ◌<◌, Err, arith, length, refl, subst, sym, true, ℕ}
 use Rattle.obs_matroid.proofs.Contained.{In-get_or}
 use Rattle.obs_matroid.specs.Lists.{In}
-use Rattle.obs_text.specs.Faults.{fault_of}
+use Rattle.obs_text.specs.inner.Faults.{fault_of}
 use Rattle.obs_files.specs.declared.taken.CaseError.{CaseError}
-use Rattle.obs_files.specs.Taken.{IsNext, bytes_of}
+use Rattle.obs_files.specs.inner.Taken.{IsNext, bytes_of}
 use Rattle.obs_files.specs.Words.{parts_of, words_of}
 use Rattle.obs_files.proofs.Contents.{contents_not_taken, reading_failed, reading_goes_on, reading_refused}
 use Rattle.obs_files.proofs.Filed.{part_here, word_here}

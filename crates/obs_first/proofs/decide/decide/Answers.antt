@@ -3,7 +3,7 @@ use Rattle.std.proofs.lemmas.List.{take_all}
 use Rattle.obs_matroid.specs.Lists.{In}
 use Rattle.obs_matroid.proofs.Contained.{In-get_or}
 use Rattle.obs_meter.specs.Touches.{touch_at}
-use Rattle.obs_first.specs.Deciding.{HasRefused, IsUnderWay}
+use Rattle.obs_first.specs.inner.Deciding.{HasRefused, IsUnderWay}
 use Rattle.obs_first.proofs.Aside.{enough_at_last}
 use Rattle.obs_first.proofs.Counting.{Decided-full, count_same, count_taken, next_thawed}
 use Rattle.obs_first.proofs.Deciding.{AreRefused, Decided-none, Decided-taken, Trying-more, Trying-passed}

@@ -1,10 +1,11 @@
 use Rattle.std.proofs.Common.{◌≡◌, ◌∙◌, ℕ, false, length, refl, sym, ap, subst, arith}
 use Rattle.obs_meter.specs.Assignments.{IsRhoAt}
 use Rattle.obs_meter.specs.Touches.{live_items}
-use Rattle.obs_assign.specs.Assignment.{Assignment, HasRoomOf, StandsOver, has_flag, pairs}
+use Rattle.obs_assign.specs.Assignment.{Assignment}
+use Rattle.obs_assign.specs.inner.Assignment.{HasRoomOf, StandsOver, has_flag, pairs}
 use Rattle.obs_exchange.proofs.Lengthening.{rooms}
 use Rattle.obs_assign.proofs.Keeping.{flags_clear}
-use Rattle.obs_first.specs.Deciding.{IsReady}
+use Rattle.obs_first.specs.inner.Deciding.{IsReady}
 use Rattle.obs_first.proofs.Beside.{thawed_longest}
 use Rattle.obs_first.proofs.Counting.{count_none}
 use Rattle.obs_first.proofs.Lawful.{Decided-all, Decided-begun}

@@ -1,6 +1,6 @@
 use Rattle.std.proofs.Common.{◌≡◌, length}
-use Rattle.obs_assign.specs.Assignment.{HasRoomOf}
-use Rattle.obs_first.specs.Deciding.{IsDecided, IsReady, frozen_pairs}
+use Rattle.obs_assign.specs.inner.Assignment.{HasRoomOf}
+use Rattle.obs_first.specs.inner.Deciding.{IsDecided, IsReady, frozen_pairs}
 use Rattle.obs_first.proofs.least.first.Given as goal
 
 abbrev pub invariant-loop-m : goal.invariant-loop-m

@@ -1,12 +1,13 @@
 use Rattle.std.proofs.Common.{◌≡◌, ◌≤◌, ◌∙◌, Bool, List, length, sym, ap, subst, arith}
-use Rattle.obs_assign.specs.Assignment.{Assignment, StandsOver, has_flag, pairs}
-use Rattle.obs_meter.specs.Sizes.{Sizes}
+use Rattle.obs_assign.specs.Assignment.{Assignment}
+use Rattle.obs_assign.specs.inner.Assignment.{StandsOver, has_flag, pairs}
+use Rattle.obs_meter.specs.inner.Sizes.{Sizes}
 use Rattle.obs_exchange.specs.declared.Sources.TheVariants.{All}
-use Rattle.obs_exchange.specs.Closed.{IsLeastClosedAt}
-use Rattle.obs_exchange.specs.Found.{Work}
-use Rattle.obs_exchange.specs.Noting.{AreNoted}
+use Rattle.obs_exchange.specs.inner.Closed.{IsLeastClosedAt}
+use Rattle.obs_exchange.specs.inner.Found.{Work}
+use Rattle.obs_exchange.specs.inner.Noting.{AreNoted}
 use Rattle.obs_exchange.proofs.Lengthening.{room_again}
-use Rattle.obs_first.specs.Deciding.{AreCriticalBeside, IsReady}
+use Rattle.obs_first.specs.inner.Deciding.{AreCriticalBeside, IsReady}
 use Rattle.obs_first.proofs.Beside.{AreCriticalBeside-loose, AreCriticalBeside-narrowed}
 use Rattle.obs_first.proofs.least.prepare.Goals as goal
 

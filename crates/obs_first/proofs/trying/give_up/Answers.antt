@@ -1,5 +1,6 @@
 use Rattle.std.proofs.Common.{◌≡◌, ◌∙◌, length, set, sym, ap, arith}
-use Rattle.obs_assign.specs.Assignment.{Assignment, has_flag, pairs}
+use Rattle.obs_assign.specs.Assignment.{Assignment}
+use Rattle.obs_assign.specs.inner.Assignment.{has_flag, pairs}
 use Rattle.obs_exchange.proofs.Lengthening.{Closed-again}
 use Rattle.obs_meter.specs.declared.Touch.TheVariants.{Nothing}
 use Rattle.obs_first.proofs.Aside.{dropped_bare, length-dropped}

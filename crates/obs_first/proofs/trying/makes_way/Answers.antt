@@ -2,7 +2,7 @@ use Rattle.std.proofs.Common.{sym, subst, arith}
 use Rattle.std.specs.Prelude.{MatchBool}
 use Rattle.obs_assign.specs.Assignment.{Assignment}
 use Rattle.obs_exchange.proofs.Walking.{touched_there}
-use Rattle.obs_first.specs.Deciding.{AreEnoughFor, HasRefused, IsMoved, IsUnderWay, MayTake}
+use Rattle.obs_first.specs.inner.Deciding.{AreEnoughFor, HasRefused, IsMoved, IsUnderWay, MayTake}
 use Rattle.obs_first.proofs.Aside.{way_or_refused}
 use Rattle.obs_first.proofs.Going.{IsMoved-none, IsMoved-on}
 use Rattle.obs_first.proofs.Taking.{HasRefused-joined}

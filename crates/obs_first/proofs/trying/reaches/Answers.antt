@@ -1,9 +1,10 @@
 use Rattle.std.proofs.Common.{set, sym, subst, arith}
-use Rattle.obs_assign.specs.Assignment.{Assignment, has_flag}
+use Rattle.obs_assign.specs.Assignment.{Assignment}
+use Rattle.obs_assign.specs.inner.Assignment.{has_flag}
 use Rattle.obs_meter.specs.declared.Touch.TheVariants.{Edge}
 use Rattle.obs_exchange.specs.declared.Sources.TheVariants.{All, One}
-use Rattle.obs_exchange.specs.Closed.{IsLeastClosedAt}
-use Rattle.obs_exchange.specs.Noting.{AreNoted, Noted}
+use Rattle.obs_exchange.specs.inner.Closed.{IsLeastClosedAt}
+use Rattle.obs_exchange.specs.inner.Noting.{AreNoted, Noted}
 use Rattle.obs_exchange.proofs.Walking.{touched_low}
 use Rattle.obs_first.proofs.Changed.{grown_noted, has_edge, noted_with_edge, stands_with_edge}
 use Rattle.obs_first.proofs.Going.{IsMoved-left, IsMoved-searched}

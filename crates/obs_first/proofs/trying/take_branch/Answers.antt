@@ -1,14 +1,15 @@
 use Rattle.std.proofs.Common.{◌≡◌, ℕ, ◌<◌, ◌∙◌, Bool, true, false, List, length, set, sym, ap, subst, inl, arith, get_or-set_other}
-use Rattle.obs_assign.specs.Assignment.{Assignment, HasRoomOf, IsWhole, StandsOver, branch_at, has_flag, is_frozen}
-use Rattle.obs_assign.specs.Spare.{IsSpare}
+use Rattle.obs_assign.specs.Assignment.{Assignment}
+use Rattle.obs_assign.specs.inner.Assignment.{HasRoomOf, IsWhole, StandsOver, branch_at, has_flag, is_frozen}
+use Rattle.obs_assign.specs.inner.Spare.{IsSpare}
 use Rattle.obs_assign.proofs.Afterwards.{pin_kept, pin_taken}
 use Rattle.obs_exchange.specs.declared.Sources.TheVariants.{All}
-use Rattle.obs_exchange.specs.Found.{Work}
-use Rattle.obs_exchange.specs.Noting.{AreNoted, Noted}
+use Rattle.obs_exchange.specs.inner.Found.{Work}
+use Rattle.obs_exchange.specs.inner.Noting.{AreNoted, Noted}
 use Rattle.obs_exchange.proofs.Lengthening.{rooms}
 use Rattle.obs_exchange.proofs.Walking.{touched_there}
 use Rattle.obs_matroid.proofs.Lists.{clash}
-use Rattle.obs_first.specs.Deciding.{AreEnoughFor, GoesOn, HasRefused, IsUnderWay}
+use Rattle.obs_first.specs.inner.Deciding.{AreEnoughFor, GoesOn, HasRefused, IsUnderWay}
 use Rattle.obs_first.proofs.Aside.{HasRefused-kept, pinned_long}
 use Rattle.obs_first.proofs.Beside.{IsPrepared-more}
 use Rattle.obs_first.proofs.Frozen.{frozen_same}

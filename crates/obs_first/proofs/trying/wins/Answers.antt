@@ -1,10 +1,10 @@
 use Rattle.std.proofs.Common.{◌∙◌, set, sym, ap, subst, arith, length-set}
 use Rattle.obs_meter.specs.declared.Touch.TheVariants.{Nothing}
-use Rattle.obs_meter.specs.Sizes.{Sizes}
+use Rattle.obs_meter.specs.inner.Sizes.{Sizes}
 use Rattle.obs_meter.proofs.Live.{live_low}
 use Rattle.obs_exchange.specs.declared.Sources.TheVariants.{All}
-use Rattle.obs_exchange.specs.Found.{Work}
-use Rattle.obs_exchange.specs.Noting.{AreNoted, Noted}
+use Rattle.obs_exchange.specs.inner.Found.{Work}
+use Rattle.obs_exchange.specs.inner.Noting.{AreNoted, Noted}
 use Rattle.obs_first.proofs.Beside.{source_of_all}
 use Rattle.obs_first.proofs.Changed.{bare_over, grown_noted_less, noted_without, stands_again}
 use Rattle.obs_first.proofs.Going.{IsMoved-left, IsMoved-searched}

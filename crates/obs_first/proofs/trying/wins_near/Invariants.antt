@@ -1,5 +1,5 @@
 use Rattle.std.proofs.Common.{◌≡◌, ℕ}
-use Rattle.obs_first.specs.Deciding.{IsMoved, IsReady}
+use Rattle.obs_first.specs.inner.Deciding.{IsMoved, IsReady}
 use Rattle.obs_first.proofs.trying.wins_near.Given as goal
 
 abbrev pub invariant-loop-k : goal.invariant-loop-k

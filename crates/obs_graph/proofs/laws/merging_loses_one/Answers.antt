@@ -1,4 +1,4 @@
-use Rattle.obs_graph.specs.Joined.{renamed}
+use Rattle.obs_graph.specs.inner.Joined.{renamed}
 use Rattle.obs_graph.proofs.IsJoined.{same-from_true, false-from_apart}
 use Rattle.obs_graph.proofs.Shapes.{merging_loses_one}
 use Rattle.obs_graph.proofs.laws.merging_loses_one.Goals as goal

@@ -1,4 +1,4 @@
-use Rattle.obs_graph.specs.Joined.{kept_in}
+use Rattle.obs_graph.specs.inner.Joined.{kept_in}
 use Rattle.obs_graph.proofs.IsJoined.{same-from_true, true-from_same}
 use Rattle.obs_graph.proofs.Sets.{rank_splits, joined_by_kept, rank_in_of_kept}
 use Rattle.obs_graph.proofs.laws.rank_of_separate_set.Goals as goal

@@ -1,6 +1,6 @@
 use Rattle.std.proofs.Common.{◌-◌, ◌*◌, ◌≤◌, set, None, length, refl, sym, ap, ◌∙◌, subst, arith}
 use Rattle.std.proofs.lemmas.List.{set-get_or}
-use Rattle.obs_graph.specs.Positions.{AreParts}
+use Rattle.obs_graph.specs.inner.Positions.{AreParts}
 use Rattle.obs_graph.proofs.LaidParts.{CanPut, IsLaid}
 use Rattle.obs_graph.proofs.LaidBranches.{branch_there, can_put_first, can_put_second, half_in, laid_absent, laid_parts, laid_starts, put_first, put_second}
 use Rattle.obs_graph.proofs.setting.bring_in.Goals as goal

@@ -1,7 +1,7 @@
 use Rattle.std.proofs.Common.{◌≡◌, ◌+◌, ◌≤◌, ltb, suc, set, take, get_or, sym, ap, ◌∙◌, subst, arith}
 use Rattle.std.specs.List.{copy_within, count_by}
 use Rattle.std.specs.List.Sorted.{IsPartitionedBy}
-use Rattle.obs_graph.specs.Placing.{place_of, total_of}
+use Rattle.obs_graph.specs.inner.Placing.{place_of, total_of}
 use Rattle.obs_graph.proofs.Shifted.{changed_from, numbers_behind, place_low, shifted_up}
 use Rattle.obs_graph.proofs.setting.put_in.Goals as goal
 use Rattle.obs_graph.proofs.setting.put_in.Goals.{After-place_in}

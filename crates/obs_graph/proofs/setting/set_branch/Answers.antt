@@ -3,7 +3,7 @@ use Rattle.std.proofs.Math.Seq.{take-set-lt}
 use Rattle.std.proofs.lemmas.List.{set-set}
 use Rattle.std.proofs.lemmas.List.Elements.{All-set}
 use Rattle.obs_graph.specs.declared.Ends.{Ends}
-use Rattle.obs_graph.specs.Positions.{AreParts, AreStarts}
+use Rattle.obs_graph.specs.inner.Positions.{AreParts, AreStarts}
 use Rattle.obs_graph.proofs.setting.set_branch.Goals as goal
 
 -- the branches without the one at e are the same before and after

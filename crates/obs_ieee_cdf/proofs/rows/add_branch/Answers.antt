@@ -4,7 +4,7 @@ use Rattle.obs_case.specs.Tables.{most_rows}
 use Rattle.obs_bus_branch.specs.Buses.{branch_name, tables_of_rows}
 use Rattle.obs_bus_branch.proofs.NumberLemmas.{is_name-branch}
 use Rattle.obs_ieee_cdf.specs.Fields.{number_of, tap_field, z_field}
-use Rattle.obs_ieee_cdf.specs.Reading.{Answers}
+use Rattle.obs_ieee_cdf.specs.inner.Reading.{Answers}
 use Rattle.obs_ieee_cdf.specs.Rows.{read_branch}
 use Rattle.obs_ieee_cdf.proofs.RowLemmas.{branch_accepted, branch_refused}
 use Rattle.obs_ieee_cdf.proofs.rows.add_branch.Goals as goal

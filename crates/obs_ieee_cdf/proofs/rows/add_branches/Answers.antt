@@ -2,7 +2,8 @@ use Rattle.std.proofs.Common.{◌+◌, [], ◌∷◌, ◌++◌, true, false, len
 use Rattle.std.proofs.lemmas.Result.{err_from_is_err_and}
 use Rattle.obs_text.specs.Lines.{lines_of}
 use Rattle.obs_text.proofs.LineLaws.{length-lines_of}
-use Rattle.obs_bus_branch.specs.Buses.{AreNamed, tables_of_rows}
+use Rattle.obs_bus_branch.specs.Buses.{tables_of_rows}
+use Rattle.obs_bus_branch.specs.inner.Buses.{AreNamed}
 use Rattle.obs_bus_branch.proofs.RowsRead.{ReadSoFar, read_one}
 use Rattle.obs_ieee_cdf.specs.Rows.{numbered, read_branch}
 use Rattle.obs_ieee_cdf.proofs.ReadLemmas.{all_read, numbered_next, read_branch-good, stops_here}

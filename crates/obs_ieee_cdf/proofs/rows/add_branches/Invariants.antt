@@ -1,8 +1,9 @@
 use Rattle.std.proofs.Common.{◌≡◌, ℕ, ◌+◌, List, [], length}
 use Rattle.obs_text.specs.Lines.{lines_of}
-use Rattle.obs_bus_branch.specs.Buses.{AreNamed, Bus, tables_of_rows}
+use Rattle.obs_bus_branch.specs.Buses.{Bus, tables_of_rows}
+use Rattle.obs_bus_branch.specs.inner.Buses.{AreNamed}
 use Rattle.obs_bus_branch.proofs.RowsRead.{ReadSoFar}
-use Rattle.obs_ieee_cdf.specs.Reading.{AreBuses}
+use Rattle.obs_ieee_cdf.specs.inner.Reading.{AreBuses}
 use Rattle.obs_ieee_cdf.specs.Rows.{numbered, read_branch}
 use Rattle.obs_ieee_cdf.proofs.rows.add_branches.Given as goal
 

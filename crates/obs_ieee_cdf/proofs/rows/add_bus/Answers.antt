@@ -1,11 +1,12 @@
 use Rattle.std.proofs.Common.{◌≡◌, ◌<◌, None, Some, Err, [], ◌∷◌, ◌++◌, length, sym, ap, ◌∙◌, subst, arith}
 use Rattle.std.proofs.lemmas.List.{length-map}
 use Rattle.obs_text.specs.Names.{is_name}
-use Rattle.obs_case.specs.Adds.{Refuses, node_fault, node_of, with_node}
+use Rattle.obs_case.specs.Adds.{with_node}
+use Rattle.obs_case.specs.inner.Adds.{Refuses, node_fault, node_of}
 use Rattle.obs_bus_branch.specs.Buses.{node_of_bus, tables_of_rows}
 use Rattle.obs_bus_branch.proofs.NumberLemmas.{is_name-decimal}
 use Rattle.obs_ieee_cdf.specs.Fields.{bus_field, number_of, source_of, type_field}
-use Rattle.obs_ieee_cdf.specs.Reading.{Answers}
+use Rattle.obs_ieee_cdf.specs.inner.Reading.{Answers}
 use Rattle.obs_ieee_cdf.specs.Rows.{read_bus}
 use Rattle.obs_ieee_cdf.proofs.NumberLemmas.{number_of-lt}
 use Rattle.obs_ieee_cdf.proofs.RowLemmas.{bus_accepted, bus_refused}

@@ -5,7 +5,7 @@ use Rattle.obs_text.proofs.LineLaws.{length-lines_of}
 use Rattle.obs_bus_branch.specs.Buses.{tables_of_rows}
 use Rattle.obs_bus_branch.proofs.NumberLemmas.{AreBuses-none}
 use Rattle.obs_bus_branch.proofs.RowsRead.{ReadSoFar, read_none, read_one}
-use Rattle.obs_ieee_cdf.specs.Reading.{AreBuses}
+use Rattle.obs_ieee_cdf.specs.inner.Reading.{AreBuses}
 use Rattle.obs_ieee_cdf.specs.Rows.{numbered, read_bus}
 use Rattle.obs_ieee_cdf.proofs.ReadLemmas.{numbered_next, read_bus-good, stops_here}
 use Rattle.obs_ieee_cdf.proofs.rows.add_buses.Goals as goal

@@ -2,7 +2,7 @@ use Rattle.std.proofs.Common.{◌≡◌, ◌+◌, [], length}
 use Rattle.obs_text.specs.Lines.{lines_of}
 use Rattle.obs_bus_branch.specs.Buses.{tables_of_rows}
 use Rattle.obs_bus_branch.proofs.RowsRead.{ReadSoFar}
-use Rattle.obs_ieee_cdf.specs.Reading.{AreBuses}
+use Rattle.obs_ieee_cdf.specs.inner.Reading.{AreBuses}
 use Rattle.obs_ieee_cdf.specs.Rows.{numbered, read_bus}
 use Rattle.obs_ieee_cdf.proofs.rows.add_buses.Given as goal
 

@@ -1,4 +1,4 @@
-use Rattle.obs_islands.specs.Rounds.{is_crossing}
+use Rattle.obs_islands.specs.inner.Rounds.{is_crossing}
 use Rattle.obs_islands.proofs.Following.{GivesUp-lowest}
 use Rattle.obs_islands.proofs.discard.discard.Goals as goal
 

@@ -1,7 +1,7 @@
 use Rattle.std.proofs.Common.{◌∙◌, ◌<◌, ◌≤◌, List, length, sym, ap, arith}
 use Rattle.obs_meter.specs.declared.Touch.{Touch}
 use Rattle.obs_meter.specs.Held.{Meters}
-use Rattle.obs_islands.specs.Rounds.{noted, remaining}
+use Rattle.obs_islands.specs.inner.Rounds.{noted, remaining}
 use Rattle.obs_islands.proofs.Crossing.{Keeping-ended, Keeping-same}
 use Rattle.obs_islands.proofs.discard.keep_others.Goals as goal
 

@@ -1,5 +1,5 @@
 use Rattle.std.proofs.Common.{◌≡◌}
-use Rattle.obs_islands.specs.Rounds.{noted}
+use Rattle.obs_islands.specs.inner.Rounds.{noted}
 use Rattle.obs_islands.proofs.Crossing.{IsKeeping}
 use Rattle.obs_islands.proofs.discard.keep_others.Given as goal
 

@@ -1,6 +1,6 @@
 use Rattle.std.proofs.Common.{arith}
 use Rattle.obs_graph.proofs.Counts.{count_below-le-n}
-use Rattle.obs_islands.specs.GivenUp.{is_noted}
+use Rattle.obs_islands.specs.inner.GivenUp.{is_noted}
 use Rattle.obs_islands.proofs.Following.{IsFilling-more, IsFilling-same}
 use Rattle.obs_islands.proofs.Noting.{noted_is}
 use Rattle.obs_islands.proofs.follow.fill_queue.Goals as goal

@@ -1,6 +1,6 @@
 use Rattle.std.proofs.Common.{ℕ, length, subst, arith}
-use Rattle.obs_islands.specs.GivenUp.{IsQueue}
-use Rattle.obs_islands.specs.Rounds.{noted}
+use Rattle.obs_islands.specs.inner.GivenUp.{IsQueue}
+use Rattle.obs_islands.specs.inner.Rounds.{noted}
 use Rattle.obs_islands.proofs.Following.{StillGivesUp-refl, StillGivesUp-then, tail_low}
 use Rattle.obs_islands.proofs.follow.follow.Goals as goal
 

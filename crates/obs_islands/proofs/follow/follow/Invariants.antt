@@ -1,6 +1,6 @@
 use Rattle.std.proofs.Common.{◌-◌, length}
-use Rattle.obs_islands.specs.GivenUp.{IsQueue, StillGivesUp}
-use Rattle.obs_islands.specs.Rounds.{noted}
+use Rattle.obs_islands.specs.inner.GivenUp.{IsQueue, StillGivesUp}
+use Rattle.obs_islands.specs.inner.Rounds.{noted}
 use Rattle.obs_islands.proofs.follow.follow.Given as goal
 
 abbrev pub invariant-loop-head : goal.invariant-loop-head

@@ -1,5 +1,5 @@
 use Rattle.std.proofs.Common.{◌≡◌, ℕ, true, sym, subst, ◌∙◌}
-use Rattle.obs_meter.specs.Touches.{touches_branch}
+use Rattle.obs_meter.specs.inner.Touches.{touches_branch}
 use Rattle.obs_islands.proofs.Following.{StillGivesUp-ends}
 use Rattle.obs_islands.proofs.Noting.{noted_is}
 use Rattle.obs_islands.proofs.follow.follow_branch.Goals as goal

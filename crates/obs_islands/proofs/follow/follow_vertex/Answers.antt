@@ -1,4 +1,4 @@
-use Rattle.obs_islands.specs.Rounds.{noted}
+use Rattle.obs_islands.specs.inner.Rounds.{noted}
 use Rattle.obs_islands.proofs.Following.{StillGivesUp-refl, StillGivesUp-then, entry_low}
 use Rattle.obs_islands.proofs.follow.follow_vertex.Goals as goal
 

@@ -1,6 +1,6 @@
 use Rattle.std.proofs.Common.{◌<◌, length}
-use Rattle.obs_islands.specs.GivenUp.{IsQueue, StillGivesUp}
-use Rattle.obs_islands.specs.Rounds.{noted}
+use Rattle.obs_islands.specs.inner.GivenUp.{IsQueue, StillGivesUp}
+use Rattle.obs_islands.specs.inner.Rounds.{noted}
 use Rattle.obs_islands.proofs.follow.follow_vertex.Given as goal
 
 abbrev pub invariant-loop-e : goal.invariant-loop-e

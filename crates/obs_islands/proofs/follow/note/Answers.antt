@@ -1,5 +1,5 @@
 use Rattle.std.proofs.Common.{◌≤◌, arith}
-use Rattle.obs_islands.specs.Rounds.{noted}
+use Rattle.obs_islands.specs.inner.Rounds.{noted}
 use Rattle.obs_islands.proofs.Following.{IsQueue-kept, IsQueue-push, queue_room}
 use Rattle.obs_islands.proofs.Noting.{noted_is}
 use Rattle.obs_islands.proofs.follow.note.Goals as goal

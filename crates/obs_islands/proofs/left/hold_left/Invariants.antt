@@ -1,5 +1,5 @@
 use Rattle.std.proofs.Common.{ℕ, ◌<◌, None, get_or}
-use Rattle.obs_islands.specs.Left.{IsLeftAt}
+use Rattle.obs_islands.specs.inner.Left.{IsLeftAt}
 use Rattle.obs_islands.proofs.left.hold_left.Given as goal
 
 abbrev pub invariant-loop-e : goal.invariant-loop-e

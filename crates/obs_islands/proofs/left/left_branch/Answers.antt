@@ -2,7 +2,7 @@ use Rattle.std.proofs.Common.{◌∙◌, get_or, sym, ap}
 use Rattle.obs_matroid.proofs.Lists.{clash}
 use Rattle.obs_meter.specs.declared.Touch.TheVariants.{Nothing}
 use Rattle.obs_assign.proofs.Afterwards.{one_owner}
-use Rattle.obs_islands.specs.Left.{is_nothing}
+use Rattle.obs_islands.specs.inner.Left.{is_nothing}
 use Rattle.obs_islands.proofs.left.left_branch.Goals as goal
 
 pub returns-then-is_discarded : goal.returns-then-is_discarded

@@ -1,4 +1,4 @@
-use Rattle.obs_islands.specs.Rounds.{AreLowest, is_crossing}
+use Rattle.obs_islands.specs.inner.Rounds.{AreLowest, is_crossing}
 use Rattle.obs_islands.proofs.pieces.mark_crossed.Given as goal
 
 abbrev pub invariant-loop-e : goal.invariant-loop-e

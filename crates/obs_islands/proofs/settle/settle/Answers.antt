@@ -1,7 +1,7 @@
 use Rattle.std.proofs.Common.{◌∙◌, ℕ, ap, sym, subst, refl}
 use Rattle.obs_forest.specs.Forest.{Forest}
 use Rattle.obs_meter.specs.Held.{Meters}
-use Rattle.obs_islands.specs.Rounds.{AreFirsts, noted}
+use Rattle.obs_islands.specs.inner.Rounds.{AreFirsts, noted}
 use Rattle.obs_islands.proofs.Settling.{Named-begun, Settling-begun, Settling-ended, Settling-next, Settling-smaller}
 use Rattle.obs_islands.proofs.settle.settle.Goals as goal
 

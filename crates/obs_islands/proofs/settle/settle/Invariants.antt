@@ -1,5 +1,5 @@
 use Rattle.std.proofs.Common.{◌≡◌}
-use Rattle.obs_graph.specs.Search.{room_of}
+use Rattle.obs_graph.specs.inner.Search.{room_of}
 use Rattle.obs_islands.proofs.Crossing.{hubs}
 use Rattle.obs_islands.proofs.Settling.{IsNamed, IsSettling}
 use Rattle.obs_islands.proofs.settle.settle.Given as goal

@@ -7,7 +7,7 @@ use Rattle.obs_case.specs.declared.rows.Branch.{Branch}
 use Rattle.obs_bus_branch.specs.Buses.{branch_name}
 use Rattle.obs_bus_branch.proofs.NumberLemmas.{is_name-branch}
 use Rattle.obs_matpower.specs.Read.{branch_of, with_status}
-use Rattle.obs_matpower.specs.Reading.{Answers, held_branches}
+use Rattle.obs_matpower.specs.inner.Reading.{Answers, held_branches}
 use Rattle.obs_matpower.proofs.AddLemmas.{both_known, branch_added, first_unknown, second_unknown}
 use Rattle.obs_matpower.proofs.add.add_between.Goals as goal
 

@@ -2,7 +2,7 @@ use Rattle.std.proofs.Common.{◌≡◌, ◌+◌, ◌<◌, Some, false, [], ◌�
 use Rattle.obs_case.specs.declared.rows.Branch.{Branch}
 use Rattle.obs_matpower.specs.Fields.{is_short, number_in}
 use Rattle.obs_matpower.specs.Read.{branch_of}
-use Rattle.obs_matpower.specs.Reading.{Answers, held_branches}
+use Rattle.obs_matpower.specs.inner.Reading.{Answers, held_branches}
 use Rattle.obs_matpower.proofs.NumberLemmas.{number_in-lt}
 use Rattle.obs_matpower.proofs.RowFaults.{whole_branch}
 use Rattle.obs_matpower.proofs.add.add_branch.Goals as goal

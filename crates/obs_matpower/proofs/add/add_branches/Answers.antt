@@ -1,12 +1,12 @@
 use Rattle.std.proofs.Common.{[], ◌∷◌, ◌++◌, ◌∙◌, ap, is_none}
 use Rattle.std.proofs.lemmas.Result.{err_from_is_err_and}
-use Rattle.obs_bus_branch.specs.Buses.{AreNamed}
+use Rattle.obs_bus_branch.specs.inner.Buses.{AreNamed}
 use Rattle.obs_bus_branch.specs.Rows.{at_end}
 use Rattle.obs_bus_branch.proofs.RowsRead.{read_one}
-use Rattle.obs_matpower.specs.Left.{rows_left}
+use Rattle.obs_matpower.specs.inner.Left.{rows_left}
 use Rattle.obs_matpower.specs.Read.{read_branch}
-use Rattle.obs_matpower.specs.Reading.{held_branches}
-use Rattle.obs_matpower.specs.Rows.{rows_of}
+use Rattle.obs_matpower.specs.inner.Reading.{held_branches}
+use Rattle.obs_matpower.specs.inner.Rows.{rows_of}
 use Rattle.obs_matpower.proofs.RowReads.{all_read, read_branch-good, stops_here}
 use Rattle.obs_matpower.proofs.add.add_branches.Goals as goal
 

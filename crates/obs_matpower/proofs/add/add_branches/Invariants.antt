@@ -1,10 +1,10 @@
 use Rattle.std.proofs.Common.{◌≡◌, ℕ, List, [], is_none}
-use Rattle.obs_bus_branch.specs.Buses.{AreNamed}
+use Rattle.obs_bus_branch.specs.inner.Buses.{AreNamed}
 use Rattle.obs_bus_branch.proofs.RowsRead.{ReadSoFar}
-use Rattle.obs_matpower.specs.Left.{rows_left}
+use Rattle.obs_matpower.specs.inner.Left.{rows_left}
 use Rattle.obs_matpower.specs.Read.{BusRow, buses_of, isolated_of, read_branch}
-use Rattle.obs_matpower.specs.Reading.{AreBuses, held_branches}
-use Rattle.obs_matpower.specs.Rows.{rows_of}
+use Rattle.obs_matpower.specs.inner.Reading.{AreBuses, held_branches}
+use Rattle.obs_matpower.specs.inner.Rows.{rows_of}
 use Rattle.obs_matpower.proofs.add.add_branches.Given as goal
 
 abbrev pub invariant-loop-row : goal.invariant-loop-row

@@ -1,10 +1,11 @@
 use Rattle.std.proofs.Common.{◌≡◌, ◌<◌, None, Some, Err, [], ◌∷◌, ◌++◌, length, decimal, false, sym, ap, ◌∙◌, subst, arith}
 use Rattle.obs_text.specs.Names.{is_name}
-use Rattle.obs_case.specs.Adds.{Refuses, node_fault, node_of, with_node}
+use Rattle.obs_case.specs.Adds.{with_node}
+use Rattle.obs_case.specs.inner.Adds.{Refuses, node_fault, node_of}
 use Rattle.obs_bus_branch.proofs.NumberLemmas.{is_name-decimal}
 use Rattle.obs_matpower.specs.Fields.{is_short, number_in, type_in}
 use Rattle.obs_matpower.specs.Read.{BusRow, read_bus}
-use Rattle.obs_matpower.specs.Reading.{Answers, held_buses}
+use Rattle.obs_matpower.specs.inner.Reading.{Answers, held_buses}
 use Rattle.obs_matpower.proofs.AddLemmas.{any_after, bus_accepted, bus_refused, nodes-length}
 use Rattle.obs_matpower.proofs.NumberLemmas.{number_in-lt}
 use Rattle.obs_matpower.proofs.add.add_bus.Goals as goal

@@ -3,10 +3,10 @@ use Rattle.std.proofs.lemmas.Result.{err_from_is_err_and}
 use Rattle.obs_case.specs.Tables.{no_rows_within}
 use Rattle.obs_bus_branch.proofs.NumberLemmas.{AreBuses-none}
 use Rattle.obs_bus_branch.proofs.RowsRead.{read_none, read_one}
-use Rattle.obs_matpower.specs.Left.{rows_left}
+use Rattle.obs_matpower.specs.inner.Left.{rows_left}
 use Rattle.obs_matpower.specs.Read.{buses_of, read_bus}
-use Rattle.obs_matpower.specs.Reading.{AreBuses, held_buses}
-use Rattle.obs_matpower.specs.Rows.{rows_of}
+use Rattle.obs_matpower.specs.inner.Reading.{AreBuses, held_buses}
+use Rattle.obs_matpower.specs.inner.Rows.{rows_of}
 use Rattle.obs_matpower.proofs.RowReads.{read_bus-good, stops_here}
 use Rattle.obs_matpower.proofs.add.add_buses.Goals as goal
 

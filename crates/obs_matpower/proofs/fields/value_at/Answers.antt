@@ -1,5 +1,5 @@
 use Rattle.std.proofs.lemmas.Iterator.Consumers.{YieldsList-from_first, nth_from_yields_List}
-use Rattle.obs_matpower.specs.Left.{values_left}
+use Rattle.obs_matpower.specs.inner.Left.{values_left}
 use Rattle.obs_matpower.specs.Rows.{values_of}
 use Rattle.obs_matpower.proofs.fields.value_at.Goals as goal
 

@@ -7,7 +7,7 @@ use Rattle.obs_matpower.specs.declared.find.Sought.TheVariants.{Opening, Closing
 use Rattle.obs_matpower.specs.Lines.{has_opening, is_closing}
 use Rattle.std.specs.List.{list_any}
 use Rattle.obs_matpower.specs.declared.part.MatTable.{MatTable}
-use Rattle.obs_matpower.specs.Table.{is_sought}
+use Rattle.obs_matpower.specs.inner.Table.{is_sought}
 use Rattle.obs_bus_branch.proofs.SearchLemmas.{passed_room}
 use Rattle.obs_matpower.proofs.FoundLemmas.{line_found, searched_on}
 use Rattle.obs_matpower.proofs.find.find_line.Goals as goal

@@ -1,7 +1,7 @@
 use Rattle.std.proofs.Common.{length}
 use Rattle.obs_text.specs.Lines.{lines_of}
 use Rattle.obs_bus_branch.proofs.SearchLemmas.{Searched}
-use Rattle.obs_matpower.specs.Table.{is_sought}
+use Rattle.obs_matpower.specs.inner.Table.{is_sought}
 use Rattle.obs_matpower.proofs.find.find_line.Given as goal
 
 abbrev pub invariant-loop-line : goal.invariant-loop-line

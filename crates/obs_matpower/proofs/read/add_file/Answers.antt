@@ -2,7 +2,7 @@ use Rattle.std.proofs.Common.{◌≡◌, Ok, Err, length, sym, ap, ◌∙◌, su
 use Rattle.std.proofs.lemmas.Result.{err_from_is_err_and}
 use Rattle.obs_matpower.specs.declared.part.MatTable.TheVariants as table
 use Rattle.obs_matpower.specs.Read.{read_branch, read_bus, read_table}
-use Rattle.obs_matpower.specs.Reading.{Answers, held_branches, held_buses}
+use Rattle.obs_matpower.specs.inner.Reading.{Answers, held_branches, held_buses}
 use Rattle.obs_matpower.proofs.FileLemmas.{after_branches, buses_are, line_low, stop_in_buses, text_few, text_is_table}
 use Rattle.obs_matpower.proofs.read.add_file.Goals as goal
 

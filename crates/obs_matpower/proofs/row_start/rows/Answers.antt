@@ -1,5 +1,6 @@
 use Rattle.std.proofs.Common.{◌≡◌, sym, ap, ◌∙◌, ◌++◌, ◌+◌, is_none, rules}
-use Rattle.obs_matpower.specs.Rows.{first_code, line_rows, rows_of}
+use Rattle.obs_matpower.specs.Rows.{line_rows}
+use Rattle.obs_matpower.specs.inner.Rows.{first_code, rows_of}
 use Rattle.obs_matpower.proofs.TextLemmas.{rows_of-first}
 use Rattle.obs_matpower.proofs.row_start.rows.Goals as goal
 

@@ -3,7 +3,8 @@ use Rattle.std.proofs.lemmas.List.{length-take-le}
 use Rattle.std.specs.List.{after_first, concat}
 use Rattle.obs_text.specs.Lines.{ended_lines}
 use Rattle.obs_matpower.specs.Lines.{is_opening, opens}
-use Rattle.obs_matpower.specs.Table.{after_opening, until_closing}
+use Rattle.obs_matpower.specs.Table.{after_opening}
+use Rattle.obs_matpower.specs.inner.Table.{until_closing}
 use Rattle.obs_matpower.proofs.FoundLemmas.{after_few, text_closed, text_fits, text_missing, text_open}
 use Rattle.obs_matpower.proofs.search.table.Goals as goal
 

@@ -1,5 +1,5 @@
 use Rattle.std.proofs.Common.{◌∙◌, sym, ap, take, arith}
-use Rattle.obs_network.specs.Following.{followed}
+use Rattle.obs_network.specs.inner.Following.{followed}
 use Rattle.obs_network.proofs.FollowedItems.{followed_far}
 use Rattle.obs_network.proofs.FollowedLoops.{Followed-far, Followed-near}
 use Rattle.obs_network.proofs.following.follow_behind.Goals as goal

@@ -1,5 +1,5 @@
 use Rattle.std.proofs.Common.{take}
-use Rattle.obs_network.specs.Following.{AreFollowed, followed}
+use Rattle.obs_network.specs.inner.Following.{AreFollowed, followed}
 use Rattle.obs_network.proofs.following.follow_behind.Given as goal
 
 abbrev pub invariant-loop-m : goal.invariant-loop-m

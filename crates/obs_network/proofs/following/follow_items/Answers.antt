@@ -1,5 +1,5 @@
 use Rattle.std.proofs.Common.{◌∙◌, take, subst, sym}
-use Rattle.obs_network.specs.Following.{AreFollowed, followed}
+use Rattle.obs_network.specs.inner.Following.{AreFollowed, followed}
 use Rattle.obs_network.proofs.FollowedLoops.{Followed-then}
 use Rattle.obs_network.proofs.following.follow_items.Goals as goal
 

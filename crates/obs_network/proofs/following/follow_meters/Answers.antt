@@ -1,6 +1,6 @@
 use Rattle.std.proofs.Common.{subst, length, ℕ, ◌≤◌, ◌≡◌, ◌∙◌, sym, take, arith}
 use Rattle.obs_network.proofs.FollowedLoops.{Meters-all, Meters-far, Meters-in_range, Meters-listed, Meters-near, Meters-read}
-use Rattle.obs_network.specs.Following.{AreFollowed, followed}
+use Rattle.obs_network.specs.inner.Following.{AreFollowed, followed}
 use Rattle.obs_network.proofs.following.follow_meters.Goals as goal
 use Rattle.obs_network.proofs.following.follow_meters.Goals.{then-is_near, else-is_near}
 

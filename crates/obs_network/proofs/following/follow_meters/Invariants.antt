@@ -1,8 +1,8 @@
 use Rattle.std.proofs.Common.{take}
 use Rattle.std.specs.Prelude.{slice_index_or}
 use Rattle.obs_meter.specs.declared.Touch.TheVariants.{Nothing}
-use Rattle.obs_network.specs.Following.{followed, followed_items, is_near}
-use Rattle.obs_network.specs.Kept.{lists_of}
+use Rattle.obs_network.specs.inner.Following.{followed, followed_items, is_near}
+use Rattle.obs_network.specs.inner.Kept.{lists_of}
 use Rattle.obs_network.proofs.FollowedLoops.{AreFollowedMeters}
 use Rattle.obs_network.proofs.following.follow_meters.Given as goal
 

@@ -1,6 +1,6 @@
 use Rattle.std.proofs.Common.{◌≡◌, ◌<◌, ◌≤◌, ℕ, length, get_or, take, map}
 use Rattle.obs_network.specs.Located.{touch_component}
-use Rattle.obs_network.specs.Kept.{list_of}
+use Rattle.obs_network.specs.inner.Kept.{list_of}
 use Rattle.obs_network.proofs.live_meters.write_lists.Given as goal
 
 -- the lists of the meters so far

@@ -3,7 +3,7 @@ use Rattle.std.specs.Prelude.{slice_index, ◌==◌}
 use Rattle.std.specs.List.{list_any}
 use Rattle.std.proofs.lemmas.List.{drop_all}
 use Rattle.obs_graph.specs.Positions.{positions_from}
-use Rattle.obs_network.specs.Kept.{flag_of}
+use Rattle.obs_network.specs.inner.Kept.{flag_of}
 use Rattle.obs_network.proofs.Marked.{marked_all, or_nothing}
 use Rattle.obs_network.proofs.marks.mark_components.Goals as goal
 

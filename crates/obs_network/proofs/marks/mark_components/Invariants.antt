@@ -3,7 +3,7 @@ use Rattle.std.specs.Prelude.{◌==◌, slice_index}
 use Rattle.std.specs.List.{list_any}
 use Rattle.obs_graph.specs.Positions.{positions_from}
 use Rattle.obs_network.specs.Components.{is_marked}
-use Rattle.obs_network.specs.Kept.{flag_of}
+use Rattle.obs_network.specs.inner.Kept.{flag_of}
 use Rattle.obs_network.proofs.marks.mark_components.Given as goal
 
 abbrev pub invariant-loop-u : goal.invariant-loop-u

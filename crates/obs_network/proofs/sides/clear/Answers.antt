@@ -1,5 +1,5 @@
 use Rattle.std.proofs.Common.{◌≡◌, ℕ, None, subst, arith}
-use Rattle.obs_network.specs.Sides.{label_at}
+use Rattle.obs_network.specs.inner.Sides.{label_at}
 use Rattle.obs_network.proofs.FoundSides.{place_in}
 use Rattle.obs_network.proofs.sides.clear.Goals as goal
 

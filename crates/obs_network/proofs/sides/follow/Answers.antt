@@ -1,5 +1,5 @@
 use Rattle.std.proofs.Common.{false, true, sym, refl, Some, Option, Bool, ◌≡◌, ℕ, None, get_or, ap, ◌∙◌, arith}
-use Rattle.obs_network.specs.Sides.{label_at, rows_in}
+use Rattle.obs_network.specs.inner.Sides.{label_at, rows_in}
 use Rattle.obs_network.proofs.Walking.{tail_room}
 use Rattle.obs_network.proofs.FollowedRows.{Following-come, Following-come_met, Following-end, Following-skip, Following-stop, but_itself, but_past, but_reaches, end_at_entry, rows_but-IsPart}
 use Rattle.std.proofs.lemmas.Bool.{false≢true, true≢false}

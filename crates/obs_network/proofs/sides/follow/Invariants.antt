@@ -1,4 +1,4 @@
-use Rattle.obs_network.specs.Sides.{rows_in}
+use Rattle.obs_network.specs.inner.Sides.{rows_in}
 use Rattle.obs_network.proofs.FollowedRows.{IsFollowing}
 use Rattle.obs_network.proofs.sides.follow.Given as goal
 

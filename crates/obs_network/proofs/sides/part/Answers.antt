@@ -1,6 +1,6 @@
 use Rattle.std.proofs.Common.{◌≡◌, Some, None, get_or, take, sym, ◌∙◌, arith}
 use Rattle.std.proofs.lemmas.List.{get_or-take, get_or_default}
-use Rattle.obs_network.specs.Sides.{rows_but}
+use Rattle.obs_network.specs.inner.Sides.{rows_but}
 use Rattle.obs_network.proofs.FoundSides.{AreClear-after, leads_apart, queued_below, walked_parts}
 use Rattle.obs_graph.specs.declared.Ends.{Ends}
 use Rattle.obs_network.proofs.sides.part.Goals as goal

@@ -1,6 +1,6 @@
 use Rattle.std.proofs.Common.{◌+◌, sym, arith}
 use Rattle.obs_network.specs.declared.sides.Walked.{Walked}
-use Rattle.obs_network.specs.Sides.{rows_in}
+use Rattle.obs_network.specs.inner.Sides.{rows_in}
 use Rattle.obs_network.proofs.Spreading.{AreWalked-begun, AreWalked-step, AreWalked-swap}
 use Rattle.obs_network.proofs.sides.spread.Goals as goal
 

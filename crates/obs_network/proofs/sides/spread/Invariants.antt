@@ -1,5 +1,5 @@
 use Rattle.std.proofs.Common.{◌+◌, ◌-◌, length}
-use Rattle.obs_network.specs.Sides.{AreWalked, rows_in}
+use Rattle.obs_network.specs.inner.Sides.{AreWalked, rows_in}
 use Rattle.obs_network.proofs.sides.spread.Given as goal
 
 abbrev pub invariant-loop-met : goal.invariant-loop-met

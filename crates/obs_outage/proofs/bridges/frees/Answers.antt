@@ -1,5 +1,5 @@
 use Rattle.std.proofs.Common.{◌≡◌, Bool, List, false, inl, inr, length, refl, sym, ap, subst, arith}
-use Rattle.obs_assign.specs.Assignment.{has_flag}
+use Rattle.obs_assign.specs.inner.Assignment.{has_flag}
 use Rattle.obs_outage.proofs.bridges.frees.Goals as goal
 
 pub is_confined-requires : goal.is_confined-requires

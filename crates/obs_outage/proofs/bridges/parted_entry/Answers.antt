@@ -1,7 +1,7 @@
 use Rattle.std.proofs.Common.{◌-◌, refl, sym, ap, ◌∙◌, subst, arith}
 use Rattle.obs_network.specs.Network.{Network, case_rows}
 use Rattle.obs_network.proofs.Bridging.{below_side}
-use Rattle.obs_outage.specs.Settled.{IsFreed}
+use Rattle.obs_outage.specs.inner.Settled.{IsFreed}
 use Rattle.obs_outage.proofs.Crossed.{missed_by}
 use Rattle.obs_outage.proofs.Joined.{entry_by, rank_alone}
 use Rattle.obs_outage.proofs.Parting.{observable_entry}

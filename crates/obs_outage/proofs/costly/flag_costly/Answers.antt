@@ -1,8 +1,8 @@
 use Rattle.std.proofs.Common.{◌≡◌, None, true, false, get_or, sym, ◌∙◌, arith}
 use Rattle.std.proofs.lemmas.Bool.{true≢false}
 use Rattle.std.proofs.lemmas.List.{length-set}
-use Rattle.obs_assign.specs.Assignment.{has_flag}
-use Rattle.obs_outage.specs.Costly.{IsCostly}
+use Rattle.obs_assign.specs.inner.Assignment.{has_flag}
+use Rattle.obs_outage.specs.inner.Costly.{IsCostly}
 use Rattle.obs_outage.proofs.Flagging.{flagged_set, unflagged_set}
 use Rattle.obs_outage.proofs.Needed.{costly_needed}
 use Rattle.obs_outage.proofs.costly.flag_costly.Goals as goal

@@ -1,6 +1,6 @@
 use Rattle.std.proofs.Common.{◌≡◌, ◌<◌, ℕ, None, false, get_or, true, length}
-use Rattle.obs_assign.specs.Assignment.{has_flag}
-use Rattle.obs_outage.specs.Costly.{IsCostly}
+use Rattle.obs_assign.specs.inner.Assignment.{has_flag}
+use Rattle.obs_outage.specs.inner.Costly.{IsCostly}
 use Rattle.obs_outage.proofs.costly.flag_costly.Given as goal
 
 abbrev pub invariant-loop-e : goal.invariant-loop-e

@@ -1,6 +1,6 @@
 use Rattle.std.proofs.Common.{◌≡◌, ◌≤◌, take}
 use Rattle.std.specs.Prelude.{count_by}
-use Rattle.obs_outage.specs.Lost.{counts_at}
+use Rattle.obs_outage.specs.inner.Lost.{counts_at}
 use Rattle.obs_outage.proofs.dead.count_at.Given as goal
 
 abbrev pub invariant-loop-k : goal.invariant-loop-k

@@ -1,7 +1,7 @@
 use Rattle.std.proofs.Common.{◌≡◌, ◌≤◌, ◌*◌, take}
 use Rattle.std.specs.Prelude.{count_by, sum_by}
 use Rattle.obs_graph.specs.Positions.{branches_at}
-use Rattle.obs_outage.specs.Lost.{counts_at}
+use Rattle.obs_outage.specs.inner.Lost.{counts_at}
 use Rattle.obs_outage.proofs.dead.count_lost.Given as goal
 
 abbrev pub invariant-loop-v : goal.invariant-loop-v

@@ -5,7 +5,7 @@ use Rattle.obs_matroid.specs.Lists.{In}
 use Rattle.obs_meter.specs.declared.Hub.{Hub}
 use Rattle.obs_meter.specs.declared.Touch.TheVariants.{Nothing}
 use Rattle.obs_meter.specs.Held.{Meters}
-use Rattle.obs_meter.specs.Touches.{hub_of}
+use Rattle.obs_meter.specs.inner.Touches.{hub_of}
 use Rattle.obs_outage.proofs.UnfedSide.{confined_by}
 use Rattle.obs_outage.proofs.dead.is_confined.Goals as goal
 

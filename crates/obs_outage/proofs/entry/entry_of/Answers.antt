@@ -6,9 +6,9 @@ use Rattle.obs_case.specs.declared.rows.Branch.{Branch}
 use Rattle.obs_assign.specs.Assignment.{Assignment}
 use Rattle.obs_network.specs.Network.{Network, case_branches}
 use Rattle.obs_network.proofs.OfCase.{case_vertex_count-le, few_branches, length-case_branches}
-use Rattle.obs_network.specs.Parted.{AreJoinedWithout}
-use Rattle.obs_kept.specs.Kept.{AreLongestOver, HasRoom}
-use Rattle.obs_outage.specs.Outages.{AllStand}
+use Rattle.obs_network.specs.inner.Parted.{AreJoinedWithout}
+use Rattle.obs_kept.specs.inner.Kept.{AreLongestOver, HasRoom}
+use Rattle.obs_outage.specs.inner.Outages.{AllStand}
 use Rattle.obs_outage.proofs.Crossed.{missed_by}
 use Rattle.obs_outage.proofs.Joined.{entry_by, rank_alone, same_by_walk}
 use Rattle.obs_outage.proofs.Readied.{basis_again, longest_of, ready_again}

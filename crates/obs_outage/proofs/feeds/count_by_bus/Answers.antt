@@ -3,8 +3,8 @@ use Rattle.std.specs.Prelude.{slice_index}
 use Rattle.std.proofs.Math.Seq.{drop-cons}
 use Rattle.obs_case.specs.declared.rows.Node.{Node}
 use Rattle.obs_switch.specs.Held.{Buses}
-use Rattle.obs_network.specs.Components.{source_nodes}
-use Rattle.obs_outage.specs.Feeds.{sources_at}
+use Rattle.obs_network.specs.inner.Components.{source_nodes}
+use Rattle.obs_outage.specs.inner.Feeds.{sources_at}
 use Rattle.obs_outage.proofs.Feeding.{counted_other, counted_source, small_source}
 use Rattle.obs_outage.proofs.feeds.count_by_bus.Goals as goal
 use Rattle.obs_outage.proofs.feeds.count_by_bus.Goals.{then-nodes-u, else-nodes-u}

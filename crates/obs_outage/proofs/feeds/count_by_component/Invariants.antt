@@ -1,8 +1,9 @@
 use Rattle.std.proofs.Common.{◌≡◌, ◌+◌, ◌<◌, ◌≤◌, ℕ, length, get_or, drop}
 use Rattle.std.specs.Prelude.{slice_index}
 use Rattle.obs_graph.specs.Positions.{positions_from}
-use Rattle.obs_network.specs.Components.{is_source, source_nodes}
-use Rattle.obs_outage.specs.Feeds.{sources_at}
+use Rattle.obs_network.specs.Components.{is_source}
+use Rattle.obs_network.specs.inner.Components.{source_nodes}
+use Rattle.obs_outage.specs.inner.Feeds.{sources_at}
 use Rattle.obs_outage.proofs.feeds.count_by_component.Given as goal
 
 abbrev pub invariant-loop-u : goal.invariant-loop-u

@@ -5,7 +5,7 @@ use Rattle.obs_case.specs.Tables.{Tables}
 use Rattle.obs_matroid.specs.Lists.{In}
 use Rattle.obs_network.specs.Network.{Network}
 use Rattle.obs_network.proofs.OfCase.{few_branches, length-case_branches}
-use Rattle.obs_outage.specs.Ready.{IsBasisOf}
+use Rattle.obs_outage.specs.inner.Ready.{IsBasisOf}
 use Rattle.obs_outage.specs.Outages.{is_outage_row, outage_rows}
 use Rattle.obs_outage.proofs.Entries.{IsListing-listed, IsListing-over, all_listed, begun, row_in}
 use Rattle.obs_outage.proofs.listing.list_outages.Goals as goal

@@ -3,10 +3,10 @@ use Rattle.obs_graph.specs.Graph.{Graph}
 use Rattle.obs_graph.specs.Positions.{IsForestAt}
 use Rattle.obs_matroid.specs.Assignments.{branches}
 use Rattle.obs_meter.specs.Held.{Meters}
-use Rattle.obs_meter.specs.Touches.{AreInRange}
-use Rattle.obs_assign.specs.Assignment.{pairs as pairs_at}
-use Rattle.obs_assign.specs.Still.{still}
-use Rattle.obs_exchange.specs.Longest.{IsMost}
+use Rattle.obs_meter.specs.inner.Touches.{AreInRange}
+use Rattle.obs_assign.specs.inner.Assignment.{pairs as pairs_at}
+use Rattle.obs_assign.specs.inner.Still.{still}
+use Rattle.obs_exchange.specs.inner.Longest.{IsMost}
 use Rattle.obs_exchange.proofs.Lengthening.{rooms}
 use Rattle.obs_kept.proofs.OfNetwork.{branches_network, fits_network, longest_network, room_network, room_stays}
 use Rattle.obs_outage.proofs.Carried.{quiet_by}

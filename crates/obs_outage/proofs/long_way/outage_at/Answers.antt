@@ -4,7 +4,7 @@ use Rattle.obs_case.specs.Flags.{with_branch_inservice}
 use Rattle.obs_case.specs.Tables.{IsValid, Tables}
 use Rattle.obs_case.proofs.RowLemmas.{length-changed}
 use Rattle.obs_network.specs.Network.{network_of}
-use Rattle.obs_kept.specs.Kept.{AreLongest}
+use Rattle.obs_kept.specs.inner.Kept.{AreLongest}
 use Rattle.obs_network.specs.Parted.{outage_case}
 use Rattle.obs_outage.proofs.Carried.{entry_is, has_room_home, has_room_out, meters_home, meters_out, most_at_home, most_at_out, positions_home, positions_out, quiet_home, quiet_out}
 use Rattle.obs_outage.proofs.InOutage.{as_many_rows, out_valid}

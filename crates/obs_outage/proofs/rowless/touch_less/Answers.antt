@@ -2,7 +2,7 @@ use Rattle.std.proofs.Common.{◌<◌, length, map, sym, ap, ◌∙◌, arith, b
 use Rattle.std.proofs.lemmas.List.{ext_get_or, get_or-map, length-map, length-set}
 use Rattle.obs_meter.specs.declared.Touch.TheVariants.{Nothing}
 use Rattle.obs_meter.specs.Held.{Meters}
-use Rattle.obs_outage.specs.Without.{left_out}
+use Rattle.obs_outage.specs.inner.Without.{left_out}
 use Rattle.obs_outage.proofs.rowless.touch_less.Goals as goal
 
 pub loop-m-init : goal.loop-m-init

@@ -1,7 +1,7 @@
 use Rattle.std.proofs.Common.{◌≡◌, ◌<◌, ℕ, length}
 use Rattle.std.specs.Prelude.{slice_index_or}
 use Rattle.obs_meter.specs.declared.Touch.TheVariants.{Nothing}
-use Rattle.obs_outage.specs.Without.{left_out}
+use Rattle.obs_outage.specs.inner.Without.{left_out}
 use Rattle.obs_outage.proofs.rowless.touch_less.Given as goal
 
 abbrev pub invariant-loop-m : goal.invariant-loop-m

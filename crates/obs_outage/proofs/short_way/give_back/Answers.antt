@@ -1,11 +1,11 @@
 use Rattle.std.proofs.Common.{sym, subst}
 use Rattle.obs_graph.specs.Graph.{Graph}
 use Rattle.obs_meter.specs.Held.{Meters}
-use Rattle.obs_meter.specs.Sizes.{HasRoomFor}
-use Rattle.obs_meter.specs.Touches.{AreInRange}
-use Rattle.obs_assign.specs.Assignment.{StandsOver}
+use Rattle.obs_meter.specs.inner.Sizes.{HasRoomFor}
+use Rattle.obs_meter.specs.inner.Touches.{AreInRange}
+use Rattle.obs_assign.specs.inner.Assignment.{StandsOver}
 use Rattle.obs_exchange.specs.declared.Sources.TheVariants.{One}
-use Rattle.obs_exchange.specs.Found.{IsFound}
+use Rattle.obs_exchange.specs.inner.Found.{IsFound}
 use Rattle.obs_outage.proofs.Alone.{bare, found_longest, low_there}
 use Rattle.obs_outage.proofs.short_way.give_back.Goals as goal
 

@@ -1,15 +1,16 @@
 use Rattle.std.proofs.Common.{inl, inr, length, sym, ◌∙◌, subst}
 use Rattle.obs_graph.specs.Graph.{Graph}
-use Rattle.obs_forest.specs.Forest.{StandsOver as ForestStandsOver}
+use Rattle.obs_forest.specs.inner.Forest.{StandsOver as ForestStandsOver}
 use Rattle.obs_meter.specs.Held.{Meters}
-use Rattle.obs_meter.specs.Sizes.{HasRoomFor}
-use Rattle.obs_meter.specs.Touches.{AreInRange}
-use Rattle.obs_assign.specs.Assignment.{Assignment, StandsOver, pairs as pairs_at}
+use Rattle.obs_meter.specs.inner.Sizes.{HasRoomFor}
+use Rattle.obs_meter.specs.inner.Touches.{AreInRange}
+use Rattle.obs_assign.specs.Assignment.{Assignment}
+use Rattle.obs_assign.specs.inner.Assignment.{StandsOver, pairs as pairs_at}
 use Rattle.obs_assign.proofs.Slotted.{slot_low}
 use Rattle.obs_exchange.specs.declared.Found.TheVariants.{Grown}
 use Rattle.obs_exchange.specs.declared.Sources.TheVariants.{One}
 use Rattle.obs_exchange.proofs.Lengthening.{rooms}
-use Rattle.obs_outage.specs.Alone.{HasLost}
+use Rattle.obs_outage.specs.inner.Alone.{HasLost}
 use Rattle.obs_outage.proofs.Alone.{bare, closed_there, grown_longest, low_there, one_less}
 use Rattle.obs_outage.proofs.Crossed.{dropped_there, free_of, stands_here_without, thawed_dropped, thawed_found}
 use Rattle.obs_outage.proofs.WithoutRow.{branches_there, costly_there, gone, in_range_there, meters_there, other, room_there, same_but_row, within_here}

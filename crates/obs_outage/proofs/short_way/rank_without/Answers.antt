@@ -1,7 +1,7 @@
 use Rattle.std.proofs.Common.{◌≡◌, ◌-◌, Bool, List, true, false, inl, inr, length, refl, ap, ◌∙◌, subst, arith}
-use Rattle.obs_assign.specs.Assignment.{has_flag}
+use Rattle.obs_assign.specs.inner.Assignment.{has_flag}
 use Rattle.obs_network.specs.Network.{Network}
-use Rattle.obs_kept.specs.Kept.{AreLongestOver}
+use Rattle.obs_kept.specs.inner.Kept.{AreLongestOver}
 use Rattle.obs_outage.proofs.Joined.{spared_over}
 use Rattle.obs_outage.proofs.short_way.rank_without.Goals as goal
 

@@ -1,6 +1,6 @@
 use Rattle.std.proofs.Common.{◌≡◌, Bool, true, false, List, inl, inr, length, refl, sym, ap, subst, arith}
-use Rattle.obs_assign.specs.Assignment.{has_flag}
-use Rattle.obs_meter.specs.Sizes.{HasRoomFor}
+use Rattle.obs_assign.specs.inner.Assignment.{has_flag}
+use Rattle.obs_meter.specs.inner.Sizes.{HasRoomFor}
 use Rattle.obs_kept.proofs.OfNetwork.{room_stays}
 use Rattle.obs_outage.proofs.Readied.{ready_again}
 use Rattle.obs_outage.proofs.short_way.settle.Goals as goal

@@ -1,5 +1,5 @@
 use Rattle.std.proofs.Common.{arith, ◌∙◌}
-use Rattle.obs_outage.specs.Sparing.{CanBeMissed, IsNeeded}
+use Rattle.obs_outage.specs.inner.Sparing.{CanBeMissed, IsNeeded}
 use Rattle.obs_outage.proofs.Flagging.{flagged_set, unflagged_set}
 use Rattle.obs_outage.proofs.spared.flag_rows.Goals as goal
 

@@ -1,5 +1,5 @@
 use Rattle.std.proofs.Common.{◌≡◌}
-use Rattle.obs_outage.specs.Sparing.{AreMissed, AreNeeded}
+use Rattle.obs_outage.specs.inner.Sparing.{AreMissed, AreNeeded}
 use Rattle.obs_outage.proofs.spared.flag_rows.Given as goal
 
 abbrev pub invariant-loop-e : goal.invariant-loop-e

@@ -1,6 +1,6 @@
 use Rattle.std.proofs.Common.{[], List, ℕ, subst, arith}
 use Rattle.std.proofs.lemmas.List.{take_all}
-use Rattle.obs_outage.specs.Sparing.{ArePut, HasPut}
+use Rattle.obs_outage.specs.inner.Sparing.{ArePut, HasPut}
 use Rattle.obs_outage.proofs.Putting.{ArePut-next, ArePut-none}
 use Rattle.obs_outage.proofs.PutWhole.{HasPut-next, HasPut-none}
 use Rattle.obs_outage.proofs.spared.put_all.Goals as goal

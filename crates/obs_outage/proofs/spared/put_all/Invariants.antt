@@ -1,5 +1,5 @@
 use Rattle.std.proofs.Common.{take}
-use Rattle.obs_outage.specs.Sparing.{ArePut, HasPut}
+use Rattle.obs_outage.specs.inner.Sparing.{ArePut, HasPut}
 use Rattle.obs_outage.proofs.spared.put_all.Given as goal
 
 abbrev pub invariant-loop-e : goal.invariant-loop-e

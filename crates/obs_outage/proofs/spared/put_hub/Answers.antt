@@ -1,7 +1,7 @@
 use Rattle.std.proofs.Common.{List, ℕ, ◌-◌, drop, get_or, length, take, subst, arith}
 use Rattle.obs_graph.specs.Positions.{branches_at}
 use Rattle.obs_matroid.specs.Lists.{In}
-use Rattle.obs_outage.specs.Sparing.{HasPut}
+use Rattle.obs_outage.specs.inner.Sparing.{HasPut}
 use Rattle.obs_outage.proofs.Putting.{ArePut-among, ArePut-none, In-slice, front_below}
 use Rattle.obs_outage.proofs.PutWhole.{HasFronts-set, HasPut-behind, HasPut-known, rest_is}
 use Rattle.obs_outage.proofs.spared.put_hub.Goals as goal

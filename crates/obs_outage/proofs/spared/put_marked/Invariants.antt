@@ -1,5 +1,5 @@
-use Rattle.obs_assign.specs.Assignment.{has_flag}
-use Rattle.obs_outage.specs.Sparing.{AreTouchedBy}
+use Rattle.obs_assign.specs.inner.Assignment.{has_flag}
+use Rattle.obs_outage.specs.inner.Sparing.{AreTouchedBy}
 use Rattle.obs_outage.proofs.PutWhole.{IsPutBelow}
 use Rattle.obs_outage.proofs.spared.put_marked.Given as goal
 

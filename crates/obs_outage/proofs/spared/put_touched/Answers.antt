@@ -2,7 +2,7 @@ use Rattle.std.proofs.Common.{List, ℕ, sym, subst}
 use Rattle.std.specs.Prelude.{slice_index_or}
 use Rattle.obs_meter.specs.declared.Touch.TheVariants.{Nothing}
 use Rattle.obs_meter.proofs.Touched.{touched-hub}
-use Rattle.obs_outage.specs.Sparing.{ArePut, HasPut}
+use Rattle.obs_outage.specs.inner.Sparing.{ArePut, HasPut}
 use Rattle.obs_outage.proofs.spared.put_touched.Goals as goal
 
 pub returns-in-Some : goal.returns-in-Some

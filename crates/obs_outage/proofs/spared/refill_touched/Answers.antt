@@ -1,6 +1,6 @@
 use Rattle.std.proofs.Common.{ℕ, sym, subst}
 use Rattle.obs_graph.specs.Positions.{AreBranches}
-use Rattle.obs_assign.specs.Assignment.{has_flag}
+use Rattle.obs_assign.specs.inner.Assignment.{has_flag}
 use Rattle.obs_outage.proofs.Putting.{AreTouchedBy-branches}
 use Rattle.obs_outage.proofs.spared.refill_touched.Goals as goal
 

@@ -2,10 +2,11 @@ use Rattle.std.proofs.Common.{[], ◌∷◌, refl, sym, ◌∙◌, subst, List}
 use Rattle.std.specs.Prelude.{All as AllOf, ◌<◌, length}
 use Rattle.obs_meter.specs.declared.Touch.{Touch}
 use Rattle.obs_meter.specs.Lost.{is_listed, losing}
-use Rattle.obs_assign.specs.Assignment.{Assignment, HasRoomOf, StandsOver}
+use Rattle.obs_assign.specs.Assignment.{Assignment}
+use Rattle.obs_assign.specs.inner.Assignment.{HasRoomOf, StandsOver}
 use Rattle.obs_exchange.specs.declared.Sources.TheVariants.{All}
-use Rattle.obs_exchange.specs.Found.{HasClosed}
-use Rattle.obs_exchange.specs.Longest.{IsLongest}
+use Rattle.obs_exchange.specs.inner.Found.{HasClosed}
+use Rattle.obs_exchange.specs.inner.Longest.{IsLongest}
 use Rattle.obs_exchange.proofs.Lengthening.{room_again, rooms}
 use Rattle.obs_pairs.proofs.Moving.{IsMoved-to, may_left, redundant_low}
 use Rattle.obs_pairs.proofs.Unreached.{lacks_class, left_again, left_is, longest-without}

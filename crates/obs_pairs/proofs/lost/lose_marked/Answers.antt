@@ -1,5 +1,5 @@
 use Rattle.std.proofs.Common.{arith}
-use Rattle.obs_assign.specs.Assignment.{has_flag}
+use Rattle.obs_assign.specs.inner.Assignment.{has_flag}
 use Rattle.obs_pairs.proofs.Losing.{Left-all, Left-more}
 use Rattle.obs_pairs.proofs.lost.lose_marked.Goals as goal
 

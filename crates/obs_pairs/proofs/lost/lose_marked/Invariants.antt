@@ -1,4 +1,4 @@
-use Rattle.obs_assign.specs.Assignment.{has_flag}
+use Rattle.obs_assign.specs.inner.Assignment.{has_flag}
 use Rattle.obs_pairs.proofs.Losing.{AreLeft}
 use Rattle.obs_pairs.proofs.lost.lose_marked.Given as goal
 

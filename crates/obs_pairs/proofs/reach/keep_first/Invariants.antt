@@ -1,5 +1,5 @@
 use Rattle.std.proofs.Common.{ℕ, cond, get_or}
-use Rattle.obs_assign.specs.Assignment.{has_flag}
+use Rattle.obs_assign.specs.inner.Assignment.{has_flag}
 use Rattle.obs_pairs.proofs.Mapped.{IsMapped}
 use Rattle.obs_pairs.proofs.reach.keep_first.Given as goal
 

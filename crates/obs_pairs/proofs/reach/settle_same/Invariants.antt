@@ -1,5 +1,5 @@
 use Rattle.std.proofs.Common.{Bool, false, not, ◌&&◌, length, get_or}
-use Rattle.obs_pairs.specs.Split.{is_same}
+use Rattle.obs_pairs.specs.inner.Split.{is_same}
 use Rattle.obs_pairs.proofs.Mapped.{IsMapped}
 use Rattle.obs_pairs.proofs.reach.settle_same.Given as goal
 

@@ -1,5 +1,5 @@
 use Rattle.std.proofs.Common.{ℕ, length}
-use Rattle.obs_pairs.specs.Split.{number_at}
+use Rattle.obs_pairs.specs.inner.Split.{number_at}
 use Rattle.obs_pairs.proofs.Mapped.{IsMapped}
 use Rattle.obs_pairs.proofs.reach.write_order.Given as goal
 

@@ -1,8 +1,8 @@
 use Rattle.std.proofs.Common.{length, refl, sym, ap, ◌∙◌, subst, ℕ, List}
 use Rattle.obs_meter.specs.declared.Touch.{Touch}
 use Rattle.obs_meter.specs.Held.{Meters}
-use Rattle.obs_assign.specs.Assignment.{Fits, StandsOver, has_flag}
-use Rattle.obs_exchange.specs.Longest.{IsMost}
+use Rattle.obs_assign.specs.inner.Assignment.{Fits, StandsOver, has_flag}
+use Rattle.obs_exchange.specs.inner.Longest.{IsMost}
 use Rattle.obs_exchange.proofs.Lengthening.{room_again, rooms}
 use Rattle.obs_exchange.proofs.Losing.{most-longest, stands-all}
 use Rattle.obs_pairs.proofs.Losing.{fits_left, restored}

@@ -1,5 +1,5 @@
-use Rattle.obs_pairs.specs.Moved.{IsMoved}
-use Rattle.obs_pairs.specs.Settled.{AreSettled}
+use Rattle.obs_pairs.specs.inner.Moved.{IsMoved}
+use Rattle.obs_pairs.specs.inner.Settled.{AreSettled}
 use Rattle.obs_pairs.proofs.rounds.split_in_rounds.Given as goal
 
 abbrev pub invariant-loop-round : goal.invariant-loop-round

@@ -1,6 +1,6 @@
 use Rattle.std.proofs.Common.{◌≡◌, ◌<◌, ◌^◌, ℕ, Bool, List, length, refl, ap, sym, ◌∙◌, subst}
-use Rattle.obs_assign.specs.Assignment.{has_flag}
-use Rattle.obs_pairs.specs.Moved.{IsMoved}
+use Rattle.obs_assign.specs.inner.Assignment.{has_flag}
+use Rattle.obs_pairs.specs.inner.Moved.{IsMoved}
 use Rattle.obs_pairs.proofs.Moving.{IsMoved-on, IsMoved-same}
 use Rattle.obs_pairs.proofs.Settling.{Settled-begun}
 use Rattle.obs_pairs.proofs.Unreached.{closed_redundant}

@@ -1,6 +1,6 @@
 use Rattle.std.proofs.Common.{Bool, List, length, refl, sym, ap, subst, arith}
-use Rattle.obs_assign.specs.Assignment.{has_flag}
-use Rattle.obs_pairs.specs.Settled.{LacksClass}
+use Rattle.obs_assign.specs.inner.Assignment.{has_flag}
+use Rattle.obs_pairs.specs.inner.Settled.{LacksClass}
 use Rattle.obs_pairs.proofs.Moving.{IsMoved-on, IsMoved-same}
 use Rattle.obs_pairs.proofs.Settling.{Settled-all, Settled-more, Settled-over}
 use Rattle.obs_pairs.proofs.settle.settle_all.Goals as goal

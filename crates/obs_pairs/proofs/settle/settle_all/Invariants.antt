@@ -1,5 +1,5 @@
-use Rattle.obs_pairs.specs.Moved.{IsMoved}
-use Rattle.obs_pairs.specs.Settled.{AreSettled}
+use Rattle.obs_pairs.specs.inner.Moved.{IsMoved}
+use Rattle.obs_pairs.specs.inner.Settled.{AreSettled}
 use Rattle.obs_pairs.proofs.settle.settle_all.Given as goal
 
 abbrev pub invariant-loop-m : goal.invariant-loop-m

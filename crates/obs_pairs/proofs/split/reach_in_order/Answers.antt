@@ -1,5 +1,5 @@
 use Rattle.std.proofs.Common.{◌<◌, ◌^◌, ℕ, length, sym, subst}
-use Rattle.obs_pairs.specs.Split.{AreInOrder}
+use Rattle.obs_pairs.specs.inner.Split.{AreInOrder}
 use Rattle.obs_pairs.proofs.Splitting.{IsOrder-numbers}
 use Rattle.obs_pairs.proofs.split.reach_in_order.Goals as goal
 

@@ -2,8 +2,8 @@ use Rattle.std.proofs.Common.{◌≡◌, ◌<◌, ◌^◌, ◌++◌, ℕ, List, 
 use Rattle.std.specs.Prelude.{take}
 use Rattle.obs_graph.proofs.Stored.{written_back}
 use Rattle.obs_meter.specs.Held.{Meters}
-use Rattle.obs_meter.specs.Sizes.{HasRoomFor}
-use Rattle.obs_pairs.specs.PairWork.{PairWork}
+use Rattle.obs_meter.specs.inner.Sizes.{HasRoomFor}
+use Rattle.obs_pairs.specs.inner.PairWork.{PairWork}
 use Rattle.obs_pairs.specs.Partners.{classes_of}
 use Rattle.obs_pairs.proofs.Settling.{first_of_classes}
 use Rattle.obs_pairs.proofs.work.find_classes.Goals as goal

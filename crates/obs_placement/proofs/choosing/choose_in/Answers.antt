@@ -1,10 +1,10 @@
 use Rattle.std.proofs.Common.{◌≡◌, ◌≤◌, length, take, drop, sym, ap, ◌∙◌, subst, arith}
 use Rattle.std.proofs.lemmas.List.{length-take-le}
-use Rattle.obs_meter.specs.Sizes.{Sizes}
+use Rattle.obs_meter.specs.inner.Sizes.{Sizes}
 use Rattle.obs_placement.specs.Answer.{cost_of}
-use Rattle.obs_placement.specs.Holding.{Known, Taking}
-use Rattle.obs_placement.specs.Offer.{HasRoomForOffer, price_in}
-use Rattle.obs_placement.specs.Taking.{since_at}
+use Rattle.obs_placement.specs.inner.Holding.{Known, Taking}
+use Rattle.obs_placement.specs.inner.Offer.{HasRoomForOffer, price_in}
+use Rattle.obs_placement.specs.inner.Taking.{since_at}
 use Rattle.obs_placement.proofs.Going.{IsUnderWay-begun}
 use Rattle.obs_placement.proofs.Listing.{chosen_list, front, only_chosen, rank_of_all, replicated, thawed_standing, unset_at}
 use Rattle.obs_placement.proofs.choosing.choose_in.Goals as goal

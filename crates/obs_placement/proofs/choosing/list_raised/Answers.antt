@@ -1,5 +1,5 @@
 use Rattle.std.proofs.Common.{◌<◌, length, arith}
-use Rattle.obs_placement.specs.Taking.{is_raised}
+use Rattle.obs_placement.specs.inner.Taking.{is_raised}
 use Rattle.obs_placement.proofs.Listing.{AreListed-more, AreListed-over}
 use Rattle.obs_placement.proofs.choosing.list_raised.Goals as goal
 use Rattle.obs_placement.proofs.choosing.list_raised.Goals.{then-raised-offer, else-raised-offer}

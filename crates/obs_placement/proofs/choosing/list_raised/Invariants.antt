@@ -1,4 +1,4 @@
-use Rattle.obs_placement.specs.Taking.{is_raised}
+use Rattle.obs_placement.specs.inner.Taking.{is_raised}
 use Rattle.obs_placement.proofs.Listing.{AreListed}
 use Rattle.obs_placement.proofs.choosing.list_raised.Given as goal
 

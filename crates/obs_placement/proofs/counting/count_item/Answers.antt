@@ -1,9 +1,9 @@
 use Rattle.std.proofs.Common.{◌≡◌, ℕ, arith, ap, ◌∙◌}
 use Rattle.std.specs.Prelude.{if◌then◌else◌}
 use Rattle.obs_meter.specs.Touches.{is_live}
-use Rattle.obs_assign.specs.Assignment.{has_flag}
-use Rattle.obs_placement.specs.Offer.{price_in}
-use Rattle.obs_placement.specs.Order.{item_at}
+use Rattle.obs_assign.specs.inner.Assignment.{has_flag}
+use Rattle.obs_placement.specs.inner.Offer.{price_in}
+use Rattle.obs_placement.specs.inner.Order.{item_at}
 use Rattle.obs_placement.proofs.Tallied.{AreCounted-fewer, AreCounted-more, AreCounted-price, one_most}
 use Rattle.obs_placement.proofs.counting.count_item.Goals as goal
 

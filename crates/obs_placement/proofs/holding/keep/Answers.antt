@@ -1,6 +1,6 @@
 use Rattle.std.proofs.Common.{◌<◌, length, arith, get_or, sym, ◌∙◌}
 use Rattle.std.proofs.lemmas.List.{get_or_default}
-use Rattle.obs_placement.specs.Taking.{never}
+use Rattle.obs_placement.specs.inner.Taking.{never}
 use Rattle.obs_placement.proofs.Flagged.{AreKept-more, AreKept-over}
 use Rattle.obs_placement.proofs.holding.keep.Goals as goal
 use Rattle.obs_placement.proofs.holding.keep.Goals.{then-since-m, else-since-m}

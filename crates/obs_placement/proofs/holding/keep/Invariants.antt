@@ -1,7 +1,7 @@
 use Rattle.std.proofs.Common.{◌≡◌, take}
-use Rattle.obs_assign.specs.Assignment.{HasRoomOf}
-use Rattle.obs_placement.specs.Holding.{StandsBeside}
-use Rattle.obs_placement.specs.Taking.{AreKept}
+use Rattle.obs_assign.specs.inner.Assignment.{HasRoomOf}
+use Rattle.obs_placement.specs.inner.Holding.{StandsBeside}
+use Rattle.obs_placement.specs.inner.Taking.{AreKept}
 use Rattle.obs_placement.proofs.holding.keep.Given as goal
 
 abbrev pub invariant-loop-m : goal.invariant-loop-m

@@ -3,9 +3,9 @@ use Rattle.std.specs.Prelude.{nat_lt}
 use Rattle.std.proofs.lemmas.Bool.{cases_Bool}
 use Rattle.std.proofs.lemmas.List.{length-set}
 use Rattle.obs_matroid.proofs.Lists.{clash}
-use Rattle.obs_assign.specs.Assignment.{is_frozen}
-use Rattle.obs_placement.specs.Holding.{Known}
-use Rattle.obs_placement.specs.Taking.{is_known, never}
+use Rattle.obs_assign.specs.inner.Assignment.{is_frozen}
+use Rattle.obs_placement.specs.inner.Holding.{Known}
+use Rattle.obs_placement.specs.inner.Taking.{is_known, never}
 use Rattle.obs_placement.proofs.Flagged.{AreFrontsOfKnown-more, AreTouchedByKnown-more, set_added, set_known, still_known}
 use Rattle.obs_placement.proofs.holding.keep_item.Goals as goal
 use Rattle.obs_placement.proofs.holding.keep_item.Goals.{then-not-mark_front, else-not-mark_front}

@@ -1,8 +1,8 @@
 use Rattle.std.proofs.Common.{true, get_or, set, subst, ap, ◌∙◌}
 use Rattle.obs_matroid.specs.Lists.{In}
 use Rattle.obs_matroid.proofs.Contained.{In-get_or}
-use Rattle.obs_placement.specs.Holding.{Known}
-use Rattle.obs_placement.specs.Taking.{is_known}
+use Rattle.obs_placement.specs.inner.Holding.{Known}
+use Rattle.obs_placement.specs.inner.Taking.{is_known}
 use Rattle.obs_placement.proofs.Flagged.{AreTouchedByKnown-set}
 use Rattle.obs_placement.proofs.holding.mark_touched.Goals as goal
 

@@ -1,5 +1,5 @@
 use Rattle.std.proofs.Common.{◌≡◌}
-use Rattle.obs_placement.specs.Holding.{AreFlagged}
+use Rattle.obs_placement.specs.inner.Holding.{AreFlagged}
 use Rattle.obs_placement.proofs.holding.mark_touched.Given as goal
 
 abbrev pub invariant-loop-e : goal.invariant-loop-e

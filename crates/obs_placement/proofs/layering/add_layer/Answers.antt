@@ -2,9 +2,10 @@ use Rattle.std.proofs.Common.{◌≡◌, ◌+◌, ◌-◌, ◌++◌, ℕ, List, 
 use Rattle.std.specs.Prelude.{filter}
 use Rattle.std.specs.List.{range_with_len}
 use Rattle.std.proofs.lemmas.List.{length-append}
-use Rattle.obs_placement.specs.Choosing.{AreFirstBelow, Laying}
-use Rattle.obs_placement.specs.Layers.{count_known, is_added, layer_outside, layer_rank}
-use Rattle.obs_placement.specs.Offer.{price_in}
+use Rattle.obs_placement.specs.inner.Choosing.{AreFirstBelow, Laying}
+use Rattle.obs_placement.specs.Layers.{layer_outside, layer_rank}
+use Rattle.obs_placement.specs.inner.Layers.{count_known, is_added}
+use Rattle.obs_placement.specs.inner.Offer.{price_in}
 use Rattle.obs_placement.proofs.Adding.{added_same, known_listed, known_most}
 use Rattle.obs_placement.proofs.Tallied.{layer_live, layer_raised}
 use Rattle.obs_placement.proofs.layering.add_layer.Goals as goal

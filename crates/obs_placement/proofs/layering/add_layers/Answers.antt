@@ -1,9 +1,9 @@
 use Rattle.std.proofs.Common.{◌<◌, ℕ, length, arith, ap, refl, sym, ◌∙◌}
 use Rattle.obs_matroid.proofs.Lists.{clash}
-use Rattle.obs_assign.specs.Assignment.{has_flag}
-use Rattle.obs_placement.specs.Counting.{live_below, raised_below}
-use Rattle.obs_placement.specs.Offer.{price_in}
-use Rattle.obs_placement.specs.Order.{item_at}
+use Rattle.obs_assign.specs.inner.Assignment.{has_flag}
+use Rattle.obs_placement.specs.inner.Counting.{live_below, raised_below}
+use Rattle.obs_placement.specs.inner.Offer.{price_in}
+use Rattle.obs_placement.specs.inner.Order.{item_at}
 use Rattle.obs_placement.proofs.LaidOut.{AreFirstBelow-none, IsLaying-begun, IsLaying-inside, IsLaying-layers, IsLaying-more, IsLaying-over}
 use Rattle.obs_placement.proofs.Tallied.{AreCounted-none}
 use Rattle.obs_placement.proofs.layering.add_layers.Goals as goal

@@ -1,9 +1,9 @@
 use Rattle.std.proofs.Common.{◌≡◌, length}
-use Rattle.obs_placement.specs.Choosing.{AreFirstBelow}
-use Rattle.obs_placement.specs.Counting.{AreCounted}
-use Rattle.obs_placement.specs.Offer.{price_in}
-use Rattle.obs_placement.specs.Order.{IsOrder}
-use Rattle.obs_placement.specs.Taking.{since_at}
+use Rattle.obs_placement.specs.inner.Choosing.{AreFirstBelow}
+use Rattle.obs_placement.specs.inner.Counting.{AreCounted}
+use Rattle.obs_placement.specs.inner.Offer.{price_in}
+use Rattle.obs_placement.specs.inner.Order.{IsOrder}
+use Rattle.obs_placement.specs.inner.Taking.{since_at}
 use Rattle.obs_placement.proofs.LaidOut.{IsLaying}
 use Rattle.obs_placement.proofs.layering.add_layers.Given as goal
 

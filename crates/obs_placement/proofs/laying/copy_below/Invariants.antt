@@ -1,5 +1,5 @@
 use Rattle.std.proofs.Common.{◌≡◌, ℕ, ◌-◌, ◌<◌, ◌≤◌, length, get_or, take}
-use Rattle.obs_placement.specs.Order.{item_at}
+use Rattle.obs_placement.specs.inner.Order.{item_at}
 use Rattle.obs_placement.proofs.laying.copy_below.Given as goal
 
 abbrev pub invariant-loop-upto : goal.invariant-loop-upto

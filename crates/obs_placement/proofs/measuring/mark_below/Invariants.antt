@@ -1,5 +1,5 @@
 use Rattle.std.proofs.Common.{length}
-use Rattle.obs_placement.specs.Offer.{price_in}
+use Rattle.obs_placement.specs.inner.Offer.{price_in}
 use Rattle.obs_placement.specs.Taking.{is_below}
 use Rattle.obs_placement.proofs.Measures.{AreTested}
 use Rattle.obs_placement.proofs.measuring.mark_below.Given as goal

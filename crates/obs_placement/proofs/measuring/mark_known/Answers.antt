@@ -1,6 +1,6 @@
 use Rattle.std.proofs.Common.{ap, sym, ltb, arith}
 use Rattle.std.proofs.lemmas.List.{get_or_default}
-use Rattle.obs_placement.specs.Taking.{never}
+use Rattle.obs_placement.specs.inner.Taking.{never}
 use Rattle.obs_placement.proofs.Measures.{AreTested-next, AreTested-none}
 use Rattle.obs_placement.proofs.measuring.mark_known.Goals as goal
 

@@ -1,5 +1,5 @@
 use Rattle.std.proofs.Common.{length, nat_lt}
-use Rattle.obs_placement.specs.Taking.{since_at}
+use Rattle.obs_placement.specs.inner.Taking.{since_at}
 use Rattle.obs_placement.proofs.Measures.{AreTested}
 use Rattle.obs_placement.proofs.measuring.mark_known.Given as goal
 

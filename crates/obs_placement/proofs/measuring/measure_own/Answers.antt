@@ -1,6 +1,6 @@
 use Rattle.std.proofs.Common.{◌≤◌, length, sym, ◌∙◌, arith}
 use Rattle.std.proofs.lemmas.List.{length-take-le}
-use Rattle.obs_placement.specs.Offer.{price_in}
+use Rattle.obs_placement.specs.inner.Offer.{price_in}
 use Rattle.obs_placement.proofs.Measures.{measured_items, measured_outside, measured_rank}
 use Rattle.obs_placement.proofs.measuring.measure_own.Goals as goal
 

@@ -1,5 +1,5 @@
 use Rattle.std.proofs.Common.{length}
-use Rattle.obs_placement.specs.Taking.{since_at}
+use Rattle.obs_placement.specs.inner.Taking.{since_at}
 use Rattle.obs_placement.proofs.Ordered.{AreWritten}
 use Rattle.obs_placement.proofs.order.number_known.Given as goal
 

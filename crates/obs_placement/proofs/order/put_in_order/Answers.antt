@@ -1,5 +1,5 @@
 use Rattle.std.proofs.Common.{length}
-use Rattle.obs_placement.specs.Offer.{price_in}
+use Rattle.obs_placement.specs.inner.Offer.{price_in}
 use Rattle.obs_placement.proofs.Ordered.{IsOrder-sorted}
 use Rattle.obs_placement.proofs.order.put_in_order.Goals as goal
 

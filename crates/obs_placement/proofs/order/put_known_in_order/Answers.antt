@@ -1,5 +1,5 @@
 use Rattle.std.proofs.Common.{length, drop}
-use Rattle.obs_placement.specs.Taking.{since_at}
+use Rattle.obs_placement.specs.inner.Taking.{since_at}
 use Rattle.obs_placement.proofs.Listing.{front}
 use Rattle.obs_placement.proofs.Ordered.{IsOrder-sorted}
 use Rattle.obs_placement.proofs.order.put_known_in_order.Goals as goal

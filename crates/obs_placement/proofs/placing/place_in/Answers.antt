@@ -1,7 +1,8 @@
 use Rattle.std.proofs.Common.{length, ap, sym, subst, arith}
-use Rattle.obs_meter.specs.Sizes.{Sizes}
-use Rattle.obs_assign.specs.Assignment.{Assignment, pairs}
-use Rattle.obs_placement.specs.Offer.{HasRoomForOffer}
+use Rattle.obs_meter.specs.inner.Sizes.{Sizes}
+use Rattle.obs_assign.specs.Assignment.{Assignment}
+use Rattle.obs_assign.specs.inner.Assignment.{pairs}
+use Rattle.obs_placement.specs.inner.Offer.{HasRoomForOffer}
 use Rattle.obs_placement.proofs.Lacking.{placed_cheap, placed_short}
 use Rattle.obs_placement.proofs.Listing.{cheap_price}
 use Rattle.obs_placement.proofs.placing.place_in.Goals as goal

@@ -1,8 +1,8 @@
 use Rattle.std.proofs.Common.{◌<◌, length, refl, sym, ◌∙◌, subst, arith, slice_index_or}
-use Rattle.obs_meter.specs.Sizes.{Sizes}
+use Rattle.obs_meter.specs.inner.Sizes.{Sizes}
 use Rattle.obs_meter.specs.Touches.{is_live}
-use Rattle.obs_placement.specs.Offer.{HasRoomForOffer, price_in}
-use Rattle.obs_placement.specs.Order.{item_at}
+use Rattle.obs_placement.specs.inner.Offer.{HasRoomForOffer, price_in}
+use Rattle.obs_placement.specs.inner.Order.{item_at}
 use Rattle.obs_placement.proofs.Going.{AreTaken-ended, cheap_items, earlier_taken, idle_step, live_step}
 use Rattle.obs_placement.proofs.Listing.{cheap_price}
 use Rattle.obs_placement.proofs.taking.take_all.Goals as goal

@@ -1,5 +1,5 @@
 use Rattle.std.proofs.Common.{◌≡◌}
-use Rattle.obs_placement.specs.Holding.{GoesOn}
+use Rattle.obs_placement.specs.inner.Holding.{GoesOn}
 use Rattle.obs_placement.proofs.taking.take_all.Given as goal
 
 abbrev pub invariant-loop-k : goal.invariant-loop-k

@@ -1,7 +1,7 @@
 use Rattle.std.proofs.Common.{◌∙◌, flat_map}
 use Rattle.obs_meter.specs.Touches.{touch_at}
 use Rattle.obs_rankcut.specs.Bounds.{listed}
-use Rattle.obs_rankcut.specs.Flags.{marked}
+use Rattle.obs_rankcut.specs.inner.Flags.{marked}
 use Rattle.obs_rankcut.proofs.Ranked.{rank_of_marked}
 use Rattle.obs_rankcut.proofs.listing.count_in.Goals as goal
 

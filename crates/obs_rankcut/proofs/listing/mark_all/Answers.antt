@@ -1,6 +1,6 @@
 use Rattle.std.proofs.Common.{List, ℕ, subst, arith}
 use Rattle.std.proofs.lemmas.List.{take_all}
-use Rattle.obs_rankcut.specs.Marks.{AreMarkedToo}
+use Rattle.obs_rankcut.specs.inner.Marks.{AreMarkedToo}
 use Rattle.obs_rankcut.proofs.Marked.{AreMarkedToo-none, AreMarkedToo-next}
 use Rattle.obs_rankcut.proofs.listing.mark_all.Goals as goal
 

@@ -1,6 +1,6 @@
 use Rattle.std.proofs.Common.{List, ℕ, drop, get_or, length, take, subst, ap, ◌∙◌, arith}
 use Rattle.obs_graph.specs.Positions.{branches_at}
-use Rattle.obs_rankcut.specs.Marks.{AreMarkedToo}
+use Rattle.obs_rankcut.specs.inner.Marks.{AreMarkedToo}
 use Rattle.obs_rankcut.proofs.Marked.{AreFrontsMarked-set, AreMarkedToo-behind, AreMarkedToo-done, flags_behind, rest_is}
 use Rattle.obs_rankcut.proofs.listing.mark_hub.Goals as goal
 use Rattle.obs_rankcut.proofs.listing.mark_hub.Goals.{After-mark_all}

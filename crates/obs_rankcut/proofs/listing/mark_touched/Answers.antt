@@ -2,7 +2,7 @@ use Rattle.std.proofs.Common.{List, ℕ, sym, subst}
 use Rattle.std.specs.Prelude.{slice_index_or}
 use Rattle.obs_meter.specs.declared.Touch.TheVariants.{Nothing}
 use Rattle.obs_meter.proofs.Touched.{touched-hub}
-use Rattle.obs_rankcut.specs.Marks.{AreMarkedToo}
+use Rattle.obs_rankcut.specs.inner.Marks.{AreMarkedToo}
 use Rattle.obs_rankcut.proofs.listing.mark_touched.Goals as goal
 
 pub returns-in-Some-clause-marks : goal.returns-in-Some-clause-marks

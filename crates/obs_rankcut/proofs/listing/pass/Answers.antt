@@ -1,7 +1,7 @@
 use Rattle.std.proofs.Common.{◌<◌, false, not, length, sym, ◌∙◌, arith}
 use Rattle.std.specs.Prelude.{slice_index_or}
 use Rattle.std.proofs.lemmas.Bool.{and_parts, not-true}
-use Rattle.obs_rankcut.specs.Flags.{marked}
+use Rattle.obs_rankcut.specs.inner.Flags.{marked}
 use Rattle.obs_rankcut.proofs.Passing.{Passed-counted, Passed-flags, Passed-idle, Passed-listed, Passed-out, idle}
 use Rattle.obs_rankcut.proofs.listing.pass.Goals as goal
 use Rattle.obs_rankcut.proofs.listing.pass.Goals.{then-choice-m+then-is_listed, then-choice-m+else-is_listed+then-is_outside, then-choice-m+else-is_listed+else-is_outside, else-choice-m}

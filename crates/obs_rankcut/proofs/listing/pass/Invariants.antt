@@ -1,4 +1,4 @@
-use Rattle.obs_rankcut.specs.Flags.{marked}
+use Rattle.obs_rankcut.specs.inner.Flags.{marked}
 use Rattle.obs_rankcut.proofs.Passing.{IsPassed}
 use Rattle.obs_rankcut.proofs.listing.pass.Given as goal
 

@@ -1,7 +1,7 @@
 use Rattle.std.proofs.Common.{◌≡◌, ℕ, List, length, take, sym, ap, ◌∙◌, arith}
-use Rattle.obs_graph.specs.Graph.{Room}
+use Rattle.obs_graph.specs.inner.Graph.{Room}
 use Rattle.obs_graph.proofs.Stored.{written_back}
-use Rattle.obs_rankcut.specs.Bounds.{CutWork}
+use Rattle.obs_rankcut.specs.inner.Bounds.{CutWork}
 use Rattle.obs_rankcut.proofs.work.measure.Goals as goal
 
 pub count_in-counted-requires : goal.count_in-counted-requires

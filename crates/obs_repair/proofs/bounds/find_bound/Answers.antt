@@ -1,7 +1,7 @@
 use Rattle.std.proofs.Common.{◌≡◌, ◌≤◌, ℕ, List, length, filter, ap, ◌∙◌, arith}
 use Rattle.obs_case.specs.Tables.{Tables}
-use Rattle.obs_assign.specs.Assignment.{has_flag}
-use Rattle.obs_network.specs.Located.{live_meters_of}
+use Rattle.obs_assign.specs.inner.Assignment.{has_flag}
+use Rattle.obs_network.specs.inner.Located.{live_meters_of}
 use Rattle.obs_network.specs.Network.{Network, network_of}
 use Rattle.obs_repair.proofs.Bounded.{few_in_component, marked_bound, measured}
 use Rattle.obs_network.proofs.OfCase.{count_of, length-case_meters}

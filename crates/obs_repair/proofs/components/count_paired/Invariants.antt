@@ -1,6 +1,6 @@
 use Rattle.std.proofs.Common.{◌≡◌, ◌≤◌, length, filter, take}
 use Rattle.std.specs.Prelude.{is_some}
-use Rattle.obs_assign.specs.Assignment.{branch_at}
+use Rattle.obs_assign.specs.inner.Assignment.{branch_at}
 use Rattle.obs_repair.proofs.components.count_paired.Given as goal
 
 abbrev pub invariant-loop-m : goal.invariant-loop-m

@@ -1,7 +1,7 @@
 use Rattle.std.proofs.Common.{◌∙◌, ap, filter, length, List, ℕ, arith}
 use Rattle.std.specs.Prelude.{is_some}
-use Rattle.obs_assign.specs.Assignment.{branch_at}
-use Rattle.obs_network.specs.Located.{live_meters_of}
+use Rattle.obs_assign.specs.inner.Assignment.{branch_at}
+use Rattle.obs_network.specs.inner.Located.{live_meters_of}
 use Rattle.obs_network.specs.Network.{Network}
 use Rattle.obs_repair.proofs.Bounded.{count_of_pairs, few_in_component}
 use Rattle.obs_repair.proofs.Enough.{enough_observable}

@@ -1,9 +1,9 @@
 use Rattle.std.proofs.Common.{[], false, subst, arith}
 use Rattle.obs_graph.specs.Graph.{Graph}
 use Rattle.obs_meter.specs.Held.{Meters}
-use Rattle.obs_assign.specs.Assignment.{StandsOver}
+use Rattle.obs_assign.specs.inner.Assignment.{StandsOver}
 use Rattle.obs_exchange.specs.declared.Sources.TheVariants.{One}
-use Rattle.obs_exchange.specs.Found.{HasClosed, HasGrown}
+use Rattle.obs_exchange.specs.inner.Found.{HasClosed, HasGrown}
 use Rattle.obs_exchange.proofs.Longest.{IsLongest-ended}
 use Rattle.obs_network.specs.Network.{network_of}
 use Rattle.obs_network.proofs.OfCase.{case_branches-are}

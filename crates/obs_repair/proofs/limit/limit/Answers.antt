@@ -2,7 +2,7 @@ use Rattle.std.proofs.Common.{◌≡◌, true, ap, sym, subst, ◌∙◌}
 use Rattle.obs_graph.specs.Graph.{Graph}
 use Rattle.obs_network.specs.Network.{network_of}
 use Rattle.obs_repair.specs.declared.edit.Edit.TheVariants as edit
-use Rattle.obs_repair.specs.Parts.{BoundsNetwork, is_inside}
+use Rattle.obs_repair.specs.inner.Parts.{BoundsNetwork, is_inside}
 use Rattle.obs_repair.proofs.Limited.{limit-back, limit-back_within, limit-between, limit-branch, limit-lost}
 use Rattle.obs_repair.proofs.limit.limit.Goals as goal
 

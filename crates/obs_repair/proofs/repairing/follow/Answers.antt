@@ -2,7 +2,8 @@ use Rattle.std.proofs.Common.{◌<◌, length, sym, ap, ◌∙◌, subst}
 use Rattle.obs_case.specs.Tables.{Tables}
 use Rattle.obs_network.specs.Network.{Rows}
 use Rattle.obs_repair.specs.declared.edit.Edit.{Edit}
-use Rattle.obs_repair.specs.Edits.{HasRow, edited}
+use Rattle.obs_repair.specs.Edits.{edited}
+use Rattle.obs_repair.specs.inner.Edits.{HasRow}
 use Rattle.obs_repair.proofs.Flagged.{rows-edited}
 use Rattle.obs_repair.proofs.repairing.follow.Goals as goal
 

@@ -2,7 +2,8 @@ use Rattle.std.proofs.Common.{◌≡◌, ◌≢◌, sym, subst}
 use Rattle.std.specs.Prelude.{MatchBool, slice_index_or}
 use mathlib.Core.Bool.{beq}
 use Rattle.obs_repair.specs.declared.edit.Edit.{Edit}
-use Rattle.obs_repair.specs.Edits.{HasRow, edited}
+use Rattle.obs_repair.specs.Edits.{edited}
+use Rattle.obs_repair.specs.inner.Edits.{HasRow}
 use Rattle.obs_repair.proofs.Flagged.{set_branch, set_meter, set_switch}
 use Rattle.obs_repair.proofs.repairing.is_set.Goals as goal
 

@@ -1,11 +1,12 @@
 use Rattle.std.proofs.Common.{sym, subst, arith}
-use Rattle.obs_assign.specs.Assignment.{Assignment, StandsOver}
+use Rattle.obs_assign.specs.Assignment.{Assignment}
+use Rattle.obs_assign.specs.inner.Assignment.{StandsOver}
 use Rattle.obs_network.specs.Network.{Network, network_of}
 use Rattle.obs_network.specs.Observable.{case_rank}
 use Rattle.obs_network.proofs.OfCase.{case_branches-are}
 use Rattle.obs_repair.specs.declared.edit.Edit.{Edit}
-use Rattle.obs_repair.specs.Repairing.{AreLeft, IsBack, IsBefore, IsSaidAlone}
-use Rattle.obs_repair.specs.Parts.{BoundsWhereKnown}
+use Rattle.obs_repair.specs.inner.Repairing.{AreLeft, IsBack, IsBefore, IsSaidAlone}
+use Rattle.obs_repair.specs.inner.Parts.{BoundsWhereKnown}
 use Rattle.obs_repair.proofs.OfNetwork.{rank_of_longest}
 use Rattle.obs_repair.proofs.Flagged.{valid_now}
 use Rattle.obs_repair.proofs.CameBack.{is_back}

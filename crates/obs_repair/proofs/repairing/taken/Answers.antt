@@ -1,7 +1,7 @@
 use Rattle.std.proofs.Common.{sym, ap, ◌∙◌, subst}
 use Rattle.obs_repair.specs.declared.edit.Edit.{Edit}
 use Rattle.obs_repair.specs.declared.edit.Edit.TheVariants.{Branch}
-use Rattle.obs_repair.specs.Repairing.{IsMeterTaken}
+use Rattle.obs_repair.specs.inner.Repairing.{IsMeterTaken}
 use Rattle.obs_repair.proofs.GivenUp.{owner-taken}
 use Rattle.obs_repair.proofs.repairing.taken.Goals as goal
 

@@ -2,7 +2,7 @@ use Rattle.std.proofs.Common.{◌≡◌, ◌++◌, ◌-◌, ℕ, List}
 use Rattle.std.specs.List.{range_with_len}
 use Rattle.obs_network.specs.Switched.{case_bus_count}
 use Rattle.obs_report.specs.Islands.{island_lines, islands_text}
-use Rattle.obs_report.specs.Printed.{Prints}
+use Rattle.obs_report.specs.inner.Printed.{Prints}
 use Rattle.obs_report.proofs.islands.print_islands.Given as goal
 
 abbrev pub invariant-loop-bus : goal.invariant-loop-bus

@@ -1,7 +1,7 @@
 use Rattle.std.proofs.Common.{◌≡◌, ◌++◌, ◌-◌, ℕ, List, length}
 use Rattle.std.specs.List.{flat_map, range_with_len}
 use Rattle.obs_report.specs.Nodes.{node_line, node_lines}
-use Rattle.obs_report.specs.Printed.{Prints}
+use Rattle.obs_report.specs.inner.Printed.{Prints}
 use Rattle.obs_report.proofs.nodes.print_nodes.Given as goal
 
 abbrev pub invariant-loop-node : goal.invariant-loop-node

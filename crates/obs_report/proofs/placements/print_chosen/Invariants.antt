@@ -1,7 +1,7 @@
 use Rattle.std.proofs.Common.{◌≡◌, ◌++◌, ℕ, List, drop}
 use Rattle.std.specs.List.{flat_map}
 use Rattle.obs_report.specs.Placements.{chosen_line}
-use Rattle.obs_report.specs.Printed.{Prints}
+use Rattle.obs_report.specs.inner.Printed.{Prints}
 use Rattle.obs_report.proofs.placements.print_chosen.Given as goal
 
 abbrev pub invariant-loop-k : goal.invariant-loop-k

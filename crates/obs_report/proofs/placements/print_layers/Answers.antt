@@ -1,7 +1,8 @@
 use Rattle.std.proofs.Common.{◌++◌, [], get_or, length, refl, subst}
 use Rattle.std.proofs.Math.Seq.{drop-cons}
 use Rattle.obs_placement.specs.declared.plans.Layer.{Layer}
-use Rattle.obs_report.specs.Placements.{AreCountsOf, layer_line, listed_between}
+use Rattle.obs_report.specs.Placements.{layer_line, listed_between}
+use Rattle.obs_report.specs.inner.Placements.{AreCountsOf}
 use Rattle.obs_report.proofs.Printing.{nothing_printed, then_printed}
 use Rattle.obs_report.proofs.Slotted.{layer_more, layer_none}
 use Rattle.obs_report.proofs.placements.print_layers.Goals as goal

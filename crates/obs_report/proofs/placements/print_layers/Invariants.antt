@@ -1,5 +1,5 @@
 use Rattle.std.proofs.Common.{ℕ, List}
-use Rattle.obs_report.specs.Printed.{Prints}
+use Rattle.obs_report.specs.inner.Printed.{Prints}
 use Rattle.obs_report.proofs.Slotted.{AreLeft}
 use Rattle.obs_report.proofs.placements.print_layers.Given as goal
 

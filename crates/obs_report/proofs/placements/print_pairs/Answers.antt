@@ -1,6 +1,6 @@
 use Rattle.std.proofs.Common.{◌<◌, ◌≤◌, ◌++◌, [], ◌∷◌, None, length, get_or, ap, refl, arith}
 use Rattle.std.specs.List.{flat_map}
-use Rattle.obs_matroid.specs.Slots.{pairs_from, pairs_of}
+use Rattle.obs_matroid.specs.inner.Slots.{pairs_from, pairs_of}
 use Rattle.obs_report.specs.Items.{pair_line}
 use Rattle.obs_report.proofs.OfPairs.{held_branch, offered_branch}
 use Rattle.obs_report.proofs.Printing.{nothing_printed, then_printed}

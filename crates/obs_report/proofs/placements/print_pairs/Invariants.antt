@@ -1,8 +1,8 @@
 use Rattle.std.proofs.Common.{◌≡◌, ◌++◌, ℕ, List, drop}
 use Rattle.std.specs.List.{flat_map}
-use Rattle.obs_matroid.specs.Slots.{pairs_from, pairs_of}
+use Rattle.obs_matroid.specs.inner.Slots.{pairs_from, pairs_of}
 use Rattle.obs_report.specs.Items.{pair_line}
-use Rattle.obs_report.specs.Printed.{Prints}
+use Rattle.obs_report.specs.inner.Printed.{Prints}
 use Rattle.obs_report.proofs.placements.print_pairs.Given as goal
 
 abbrev pub invariant-loop-m : goal.invariant-loop-m

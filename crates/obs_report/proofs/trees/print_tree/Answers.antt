@@ -1,8 +1,8 @@
 use Rattle.std.proofs.Common.{◌∙◌, length, ap, subst, arith}
 use Rattle.obs_case.specs.Tables.{Tables}
-use Rattle.obs_assign.specs.Assignment.{StandsOver}
+use Rattle.obs_assign.specs.inner.Assignment.{StandsOver}
 use Rattle.obs_network.specs.Network.{Network}
-use Rattle.obs_network.specs.Located.{live_meters_of}
+use Rattle.obs_network.specs.inner.Located.{live_meters_of}
 use Rattle.obs_network.proofs.OfCase.{length-case_meters}
 use Rattle.obs_report.specs.Meters.{component_name}
 use Rattle.obs_report.proofs.OfPairs.{tree_pairs}

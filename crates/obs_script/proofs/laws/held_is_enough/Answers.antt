@@ -1,5 +1,5 @@
 use Rattle.std.proofs.Common.{ap, ◌∙◌}
-use Rattle.obs_script.specs.Gathered.{is_passed, line_of}
+use Rattle.obs_script.specs.inner.Gathered.{is_passed, line_of}
 use Rattle.obs_script.proofs.HeldLemmas.{is_passed-held, line_of-held}
 use Rattle.obs_script.proofs.laws.held_is_enough.Goals as goal
 

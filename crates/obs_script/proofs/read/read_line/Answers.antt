@@ -1,6 +1,7 @@
 use Rattle.std.proofs.Common.{◌≡◌, ◌≢◌, None, Some, length, sym, ap, ◌∙◌}
 use Rattle.obs_text.specs.Names.{is_name}
-use Rattle.obs_script.specs.Commands.{ask_of, command_word, edit_of, name_in, said_of}
+use Rattle.obs_script.specs.Commands.{ask_of, command_word, edit_of, name_in}
+use Rattle.obs_script.specs.inner.Commands.{said_of}
 use Rattle.obs_script.proofs.WordLemmas.{with_bad_name, with_name, without_name}
 use Rattle.obs_script.proofs.read.read_line.Goals as goal
 

@@ -1,6 +1,6 @@
 use Rattle.std.proofs.Common.{◌≡◌, ℕ, ◌<◌, ◌≤◌}
 use Rattle.std.specs.Prelude.{slice_index}
-use Rattle.obs_station.specs.Held.{station_key}
+use Rattle.obs_station.specs.inner.Held.{station_key}
 use Rattle.obs_station.proofs.membership.write_keys.Given as goal
 
 -- the keys of the meters so far

@@ -1,5 +1,5 @@
 use Rattle.std.proofs.Common.{◌≡◌, ◌+◌, ◌≤◌, length}
-use Rattle.obs_station.specs.Rounds.{AreRanked, allowance}
+use Rattle.obs_station.specs.inner.Rounds.{AreRanked, allowance}
 use Rattle.obs_station.proofs.rounds.settle.Given as goal
 
 abbrev pub invariant-loop-c : goal.invariant-loop-c

@@ -1,5 +1,5 @@
 use Rattle.std.proofs.Common.{◌≡◌, ℕ, None, cond, get_or, length, sym, ap, ◌∙◌, subst, arith}
-use Rattle.obs_station.specs.Rounds.{Rounds}
+use Rattle.obs_station.specs.inner.Rounds.{Rounds}
 use Rattle.obs_station.proofs.Allowed.{allowance-none, ranked-none}
 use Rattle.obs_station.proofs.Going.{settled_further}
 use Rattle.obs_station.proofs.Placed.{reached_none}

@@ -1,5 +1,5 @@
 use Rattle.std.proofs.Common.{Option, List, ℕ, length, refl, ap, ◌∙◌, arith}
-use Rattle.obs_station.specs.Rounds.{allowance}
+use Rattle.obs_station.specs.inner.Rounds.{allowance}
 use Rattle.obs_station.proofs.Going.{goes_nowhere}
 use Rattle.obs_station.proofs.Settling.{known_again}
 use Rattle.obs_station.proofs.settle.settle_reached.Goals as goal

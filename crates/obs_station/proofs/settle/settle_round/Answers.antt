@@ -1,7 +1,7 @@
 use Rattle.std.proofs.Common.{ℕ, ◌+◌, ◌<◌, ◌≤◌, List, length, sym, subst, ap, arith}
 use Rattle.std.specs.Prelude.{All}
 use Rattle.std.proofs.lemmas.List.{length-take-le}
-use Rattle.obs_station.specs.Rounds.{Rounds}
+use Rattle.obs_station.specs.inner.Rounds.{Rounds}
 use Rattle.obs_station.proofs.Going.{settled_further}
 use Rattle.obs_station.proofs.Settling.{all_low, known_again, settled_pairs}
 use Rattle.obs_station.proofs.settle.settle_round.Goals as goal

@@ -1,4 +1,4 @@
-use Rattle.obs_station.specs.Going.{HasSettled}
+use Rattle.obs_station.specs.inner.Going.{HasSettled}
 use Rattle.obs_station.proofs.settle.settle_rounds.Given as goal
 
 abbrev pub invariant-loop-round : goal.invariant-loop-round

@@ -5,10 +5,11 @@ use Rattle.obs_matroid.specs.Lists.{In}
 use Rattle.obs_matroid.proofs.Lists.{clash, length-without_lt}
 use Rattle.obs_switch.specs.Groups.{items_with}
 use Rattle.obs_meter.specs.Assignments.{rho_at}
-use Rattle.obs_meter.specs.Lost.{is_listed, left_of}
+use Rattle.obs_meter.specs.Lost.{is_listed}
+use Rattle.obs_meter.specs.inner.Lost.{left_of}
 use Rattle.obs_meter.specs.Touches.{live_items}
 use Rattle.obs_meter.proofs.Live.{live_low}
-use Rattle.obs_station.specs.Going.{NoneVacant}
+use Rattle.obs_station.specs.inner.Going.{NoneVacant}
 use Rattle.obs_station.proofs.Going.{settled_nowhere}
 use Rattle.obs_station.proofs.Members.{member-at}
 use Rattle.obs_station.proofs.Settling.{settled_one}

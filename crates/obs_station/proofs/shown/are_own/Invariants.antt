@@ -1,5 +1,5 @@
 use Rattle.std.proofs.Common.{◌≢◌, ℕ, ◌<◌, ◌≤◌, None, get_or}
-use Rattle.obs_assign.specs.Assignment.{branch_at}
+use Rattle.obs_assign.specs.inner.Assignment.{branch_at}
 use Rattle.obs_station.proofs.shown.are_own.Given as goal
 
 abbrev pub invariant-loop-m : goal.invariant-loop-m

@@ -1,6 +1,6 @@
 use Rattle.std.proofs.Common.{ℕ, ◌+◌, List, length, get_or, ap, ◌∙◌, inl, arith}
 use Rattle.std.specs.Prelude.{filter, nat_lt}
-use Rattle.obs_switch.specs.Groups.{group_start}
+use Rattle.obs_switch.specs.inner.Groups.{group_start}
 use Rattle.obs_station.proofs.Ordering.{starts_rise}
 use Rattle.obs_station.proofs.shown.count_spared.Goals as goal
 

@@ -1,7 +1,7 @@
 use Rattle.std.proofs.Common.{◌≡◌, ℕ, ◌+◌, ◌≤◌, List, length, sym, ap, ◌∙◌, arith}
 use Rattle.obs_switch.specs.Groups.{items_with}
-use Rattle.obs_assign.specs.Assignment.{pairs}
-use Rattle.obs_station.specs.Rounds.{rank_left}
+use Rattle.obs_assign.specs.inner.Assignment.{pairs}
+use Rattle.obs_station.specs.inner.Rounds.{rank_left}
 use Rattle.obs_station.proofs.Placed.{spared_few, spared_rank}
 use Rattle.obs_station.proofs.shown.shown_rank.Goals as goal
 use Rattle.obs_station.proofs.shown.shown_rank.Goals.{After-length}

@@ -3,8 +3,8 @@ use Rattle.std.specs.Prelude.{All}
 use Rattle.obs_meter.specs.declared.Touch.{Touch}
 use Rattle.obs_meter.specs.Held.{Meters}
 use Rattle.obs_meter.specs.Lost.{is_listed, losing}
-use Rattle.obs_assign.specs.Assignment.{StandsOver}
-use Rattle.obs_exchange.specs.Longest.{IsLongest, IsMost}
+use Rattle.obs_assign.specs.inner.Assignment.{StandsOver}
+use Rattle.obs_exchange.specs.inner.Longest.{IsLongest, IsMost}
 use Rattle.obs_exchange.proofs.Lengthening.{room_again, rooms}
 use Rattle.obs_exchange.proofs.Losing.{most-longest, stands-all}
 use Rattle.obs_station.proofs.Pairs.{fewer_lost}

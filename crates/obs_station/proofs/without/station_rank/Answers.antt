@@ -2,9 +2,10 @@ use Rattle.std.proofs.Common.{◌≡◌, ℕ, ◌<◌, Option, List, length, ref
 use Rattle.std.specs.Prelude.{All, IfSome}
 use Rattle.obs_switch.specs.Groups.{items_with}
 use Rattle.obs_meter.specs.Assignments.{rho_at}
-use Rattle.obs_meter.specs.Lost.{is_listed, left_of}
+use Rattle.obs_meter.specs.Lost.{is_listed}
+use Rattle.obs_meter.specs.inner.Lost.{left_of}
 use Rattle.obs_meter.specs.Touches.{live_items}
-use Rattle.obs_station.specs.Rounds.{allowed, rank_left}
+use Rattle.obs_station.specs.inner.Rounds.{allowed, rank_left}
 use Rattle.obs_station.proofs.Going.{goes_nowhere}
 use Rattle.obs_station.proofs.without.station_rank.Goals as goal
 

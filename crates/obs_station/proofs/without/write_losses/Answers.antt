@@ -2,9 +2,10 @@ use Rattle.std.proofs.Common.{◌≡◌, ℕ, ◌<◌, ◌≤◌, true, false, N
 use Rattle.std.specs.List.{range_with_len}
 use Rattle.obs_matroid.proofs.Comparing.{cases_Option}
 use Rattle.obs_matroid.proofs.Lists.{clash}
-use Rattle.obs_switch.specs.Groups.{group_start, items_with}
-use Rattle.obs_station.specs.Held.{has_any, losses_in}
-use Rattle.obs_station.specs.Rounds.{allowance, allowed}
+use Rattle.obs_switch.specs.Groups.{items_with}
+use Rattle.obs_switch.specs.inner.Groups.{group_start}
+use Rattle.obs_station.specs.inner.Held.{has_any, losses_in}
+use Rattle.obs_station.specs.inner.Rounds.{allowance, allowed}
 use Rattle.obs_station.proofs.Allowed.{allowance-next}
 use Rattle.obs_station.proofs.Going.{goes_further}
 use Rattle.obs_station.proofs.Grouped.{loss_made}

@@ -1,7 +1,7 @@
 use Rattle.std.proofs.Common.{◌+◌, ◌≤◌}
-use Rattle.obs_switch.specs.Groups.{group_start}
-use Rattle.obs_station.specs.Going.{GoesOn}
-use Rattle.obs_station.specs.Rounds.{allowance}
+use Rattle.obs_switch.specs.inner.Groups.{group_start}
+use Rattle.obs_station.specs.inner.Going.{GoesOn}
+use Rattle.obs_station.specs.inner.Rounds.{allowance}
 use Rattle.obs_station.proofs.Listing.{IsListing}
 use Rattle.obs_station.proofs.without.write_losses.Given as goal
 

@@ -1,7 +1,8 @@
 use Rattle.std.proofs.Common.{ℕ, ◌<◌, suc, List, length, drop, sym, ap, ◌∙◌, subst, arith}
 use Rattle.std.proofs.lemmas.List.{get_or_append_left, length-take-le}
-use Rattle.obs_switch.specs.Buses.{LinksBelow, buses_of, bus_count}
-use Rattle.obs_switch.specs.Groups.{AreGroups}
+use Rattle.obs_switch.specs.Buses.{buses_of, bus_count}
+use Rattle.obs_switch.specs.inner.Buses.{LinksBelow}
+use Rattle.obs_switch.specs.inner.Groups.{AreGroups}
 use Rattle.obs_switch.proofs.Rebuilt.{front_is, length-front}
 use Rattle.obs_switch.proofs.rebuild.rebuild.Goals as goal
 

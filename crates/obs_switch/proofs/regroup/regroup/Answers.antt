@@ -1,6 +1,6 @@
 use Rattle.std.proofs.Common.{◌≡◌, ℕ, List, length, get_or, set, refl, sym, subst, arith}
 use Rattle.std.proofs.lemmas.List.{set-get_or}
-use Rattle.obs_switch.specs.Groups.{AreGroups}
+use Rattle.obs_switch.specs.inner.Groups.{AreGroups}
 use Rattle.obs_switch.proofs.regroup.regroup.Goals.{then-old-key, else-old-key+then-key-old, else-old-key+else-key-old}
 use Rattle.obs_switch.proofs.regroup.regroup.Goals as goal
 

@@ -1,5 +1,5 @@
 use Rattle.std.specs.Prelude.{sum_by}
-use Rattle.obs_switch.specs.Labels.{AreLabels}
+use Rattle.obs_switch.specs.inner.Labels.{AreLabels}
 use Rattle.obs_switch.proofs.sweep.settle.Given as goal
 
 abbrev pub invariant-loop-labels : goal.invariant-loop-labels

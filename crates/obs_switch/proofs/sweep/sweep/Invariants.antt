@@ -1,6 +1,6 @@
 use Rattle.std.proofs.Common.{◌≡◌, ◌<◌, ℕ, false, get_or}
 use Rattle.obs_switch.specs.declared.link.Link.{Link}
-use Rattle.obs_switch.specs.Labels.{AreLowered}
+use Rattle.obs_switch.specs.inner.Labels.{AreLowered}
 use Rattle.obs_switch.proofs.sweep.sweep.Given as goal
 
 abbrev pub invariant-loop-link : goal.invariant-loop-link

@@ -1,4 +1,4 @@
-use Rattle.obs_switch.specs.Labels.{AreLowered}
+use Rattle.obs_switch.specs.inner.Labels.{AreLowered}
 use Rattle.obs_switch.proofs.sweep.sweep_back.Given as goal
 
 abbrev pub invariant-loop-i : goal.invariant-loop-i

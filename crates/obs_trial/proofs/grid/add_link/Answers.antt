@@ -1,7 +1,7 @@
 use Rattle.std.proofs.Common.{◌≡◌, ◌*◌, length, ap, ◌∙◌}
 use Rattle.std.specs.List.{range_with_len}
 use Rattle.obs_case.specs.Tables.{node_names}
-use Rattle.obs_trial.specs.Named.{HasNodes}
+use Rattle.obs_trial.specs.inner.Named.{HasNodes}
 use Rattle.obs_trial.specs.Trial.{kind_drawn, place_drawn}
 use Rattle.obs_trial.proofs.RowLemmas.{length-branches, linked, names_of_nodes}
 use Rattle.obs_trial.proofs.grid.add_link.Goals as goal

@@ -1,5 +1,5 @@
 use Rattle.std.proofs.Common.{sym, subst}
-use Rattle.obs_trial.specs.Named.{IsSoFar}
+use Rattle.obs_trial.specs.inner.Named.{IsSoFar}
 use Rattle.obs_trial.specs.Trial.{ends_of_first}
 use Rattle.obs_trial.proofs.RowLemmas.{ends-more}
 use Rattle.obs_trial.proofs.grid.add_links.Goals as goal

@@ -1,4 +1,4 @@
-use Rattle.obs_trial.specs.Named.{IsSoFar}
+use Rattle.obs_trial.specs.inner.Named.{IsSoFar}
 use Rattle.obs_trial.specs.Trial.{ends_of_first}
 use Rattle.obs_trial.proofs.grid.add_links.Given as goal
 

@@ -1,7 +1,7 @@
 use Rattle.std.proofs.Common.{zero-add, sym, ap, ◌∙◌}
 use Rattle.std.proofs.lemmas.List.FromFn.{map-range_with_len_more}
 use Rattle.obs_case.specs.Adds.{with_node}
-use Rattle.obs_case.specs.Tables.{no_rows}
+use Rattle.obs_case.specs.inner.Tables.{no_rows}
 use Rattle.obs_trial.specs.Trial.{node_at}
 use Rattle.obs_trial.proofs.grid.add_nodes.Goals as goal
 

@@ -1,5 +1,5 @@
 use Rattle.std.proofs.Common.{◌≡◌}
-use Rattle.obs_case.specs.Tables.{no_rows}
+use Rattle.obs_case.specs.inner.Tables.{no_rows}
 use Rattle.obs_trial.specs.Trial.{nodes_of}
 use Rattle.obs_trial.proofs.grid.add_nodes.Given as goal
 

@@ -2,7 +2,7 @@ use Rattle.std.proofs.Common.{◌≡◌, ◌∷◌, decimal, true, refl, ap, ◌
 use Rattle.obs_text.specs.Names.{is_name}
 use Rattle.obs_case.specs.Adds.{meter_of, with_meter}
 use Rattle.obs_case.specs.Tables.{place_names, place_of}
-use Rattle.obs_trial.specs.Named.{place_letter}
+use Rattle.obs_trial.specs.inner.Named.{place_letter}
 use Rattle.obs_trial.specs.Trial.{meter_row}
 use Rattle.obs_trial.proofs.NameLemmas.{is_name-numbered, place_of-own}
 use Rattle.obs_trial.proofs.rows.add_meter.Goals as goal

@@ -1,11 +1,12 @@
 use Rattle.std.proofs.Common.{refl, sym, subst}
 use Rattle.obs_graph.specs.Positions.{IsForestAt}
 use Rattle.obs_matroid.specs.Assignments.{branches}
-use Rattle.obs_matroid.specs.Slots.{pairs_of}
-use Rattle.obs_forest.specs.Forest.{StandsOver as ForestStandsOver}
-use Rattle.obs_assign.specs.Assignment.{Assignment, HasRoomOf}
-use Rattle.obs_assign.specs.Kept.{Kept, seen}
-use Rattle.obs_assign.specs.Moves.{ArePath, moved}
+use Rattle.obs_matroid.specs.inner.Slots.{pairs_of}
+use Rattle.obs_forest.specs.inner.Forest.{StandsOver as ForestStandsOver}
+use Rattle.obs_assign.specs.Assignment.{Assignment}
+use Rattle.obs_assign.specs.inner.Assignment.{HasRoomOf}
+use Rattle.obs_assign.specs.inner.Kept.{Kept, seen}
+use Rattle.obs_assign.specs.inner.Moves.{ArePath, moved}
 use Rattle.obs_assign.proofs.Changes.{IsMoved, IsMoved-made}
 use Rattle.obs_assign.proofs.Keeping.{HasArrays-same, path_different, path_low_all, path_some}
 use Rattle.obs_assign.proofs.Over.{HasRoomOf-with, IsOver-made}

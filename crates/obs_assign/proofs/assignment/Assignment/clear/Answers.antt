@@ -2,8 +2,9 @@ use Rattle.std.proofs.Common.{◌≡◌, ◌++◌, ℕ, length, take, drop, repl
 use Rattle.std.specs.Prelude.{None}
 use Rattle.std.proofs.lemmas.List.{length-replicate}
 use Rattle.obs_forest.proofs.Lent.{filled_back}
-use Rattle.obs_assign.specs.Assignment.{Assignment, HasRoomOf}
-use Rattle.obs_assign.specs.Kept.{Kept, seen, with_slots}
+use Rattle.obs_assign.specs.Assignment.{Assignment}
+use Rattle.obs_assign.specs.inner.Assignment.{HasRoomOf}
+use Rattle.obs_assign.specs.inner.Kept.{Kept, seen, with_slots}
 use Rattle.obs_assign.proofs.Changes.{IsCleared, IsCleared-made}
 use Rattle.obs_assign.proofs.Keeping.{HasArrays-same}
 use Rattle.obs_assign.proofs.Over.{HasRoomOf-with}

@@ -1,7 +1,8 @@
 use Rattle.std.proofs.Common.{false, set, refl, sym, subst, length-set}
-use Rattle.obs_forest.specs.Forest.{StandsOver as ForestStandsOver}
-use Rattle.obs_assign.specs.Assignment.{Assignment, HasRoomOf}
-use Rattle.obs_assign.specs.Kept.{Kept, seen}
+use Rattle.obs_forest.specs.inner.Forest.{StandsOver as ForestStandsOver}
+use Rattle.obs_assign.specs.Assignment.{Assignment}
+use Rattle.obs_assign.specs.inner.Assignment.{HasRoomOf}
+use Rattle.obs_assign.specs.inner.Kept.{Kept, seen}
 use Rattle.obs_assign.proofs.Changes.{IsDropped, IsDropped-made}
 use Rattle.obs_assign.proofs.Keeping.{HasArrays-same}
 use Rattle.obs_assign.proofs.Over.{HasRoomOf-with, IsOver-made}

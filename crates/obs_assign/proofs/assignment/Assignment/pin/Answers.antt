@@ -2,9 +2,10 @@ use Rattle.std.proofs.Common.{◌≡◌, Option, ℕ, false, sym, subst}
 use Rattle.std.specs.Prelude.{IfSome, slice_index_or}
 use Rattle.obs_meter.specs.declared.Touch.TheVariants.{Nothing}
 use Rattle.obs_meter.proofs.Touched.{touched-present}
-use Rattle.obs_assign.specs.Assignment.{Assignment, StandsOver, is_frozen}
-use Rattle.obs_assign.specs.Pins.{IsPinnedAt}
-use Rattle.obs_assign.specs.Spare.{IsSpare}
+use Rattle.obs_assign.specs.Assignment.{Assignment}
+use Rattle.obs_assign.specs.inner.Assignment.{StandsOver, is_frozen}
+use Rattle.obs_assign.specs.inner.Pins.{IsPinnedAt}
+use Rattle.obs_assign.specs.inner.Spare.{IsSpare}
 use Rattle.obs_assign.proofs.assignment.Assignment.pin.Goals as goal
 
 pub spare-requires-clause-present : goal.spare-requires-clause-present

@@ -1,11 +1,12 @@
 use Rattle.std.proofs.Common.{◌≡◌, ◌<◌, ◌≤◌, ◌+◌, ℕ, false, true, List, length, set, refl, ap, sym, ◌∙◌, subst, length-set}
 use Rattle.obs_graph.specs.Graph.{Graph}
-use Rattle.obs_matroid.specs.Slots.{pairs_of}
+use Rattle.obs_matroid.specs.inner.Slots.{pairs_of}
 use Rattle.obs_meter.specs.declared.Touch.{Touch}
-use Rattle.obs_assign.specs.Assignment.{Assignment, HasRoomOf, StandsOver, is_frozen, pairs}
-use Rattle.obs_assign.specs.Kept.{Kept, seen}
-use Rattle.obs_assign.specs.Pins.{IsPinnedAt}
-use Rattle.obs_assign.specs.Spare.{IsSpare}
+use Rattle.obs_assign.specs.Assignment.{Assignment}
+use Rattle.obs_assign.specs.inner.Assignment.{HasRoomOf, StandsOver, is_frozen, pairs}
+use Rattle.obs_assign.specs.inner.Kept.{Kept, seen}
+use Rattle.obs_assign.specs.inner.Pins.{IsPinnedAt}
+use Rattle.obs_assign.specs.inner.Spare.{IsSpare}
 use Rattle.obs_assign.proofs.Keeping.{HasArrays-same}
 use Rattle.obs_assign.proofs.Over.{HasRoomOf-with, IsOver-made}
 use Rattle.obs_assign.proofs.Pinned.{IsPinnedNew, IsPinnedNew-made, forest_pinned, spare_owner}

@@ -2,8 +2,9 @@ use Rattle.std.proofs.Common.{◌≡◌, ◌++◌, List, Option, length, take, d
 use Rattle.std.proofs.lemmas.List.{length-replicate}
 use Rattle.obs_graph.specs.declared.Ends.{Ends}
 use Rattle.obs_forest.proofs.Lent.{filled_back, lent_back, lent_len}
-use Rattle.obs_assign.specs.Assignment.{Assignment, HasRoomOf}
-use Rattle.obs_assign.specs.Kept.{Kept, seen}
+use Rattle.obs_assign.specs.Assignment.{Assignment}
+use Rattle.obs_assign.specs.inner.Assignment.{HasRoomOf}
+use Rattle.obs_assign.specs.inner.Kept.{Kept, seen}
 use Rattle.obs_assign.proofs.Keeping.{HasArrays-same}
 use Rattle.obs_assign.proofs.Over.{HasRoomOf-with}
 use Rattle.obs_assign.proofs.Pinned.{IsCarried, IsCarried-made}

@@ -1,13 +1,15 @@
 use Rattle.std.proofs.Common.{◌≡◌, ℕ, Bool, List, false, true, length, take, sym, ap, ◌∙◌, subst, arith}
 use Rattle.std.specs.Prelude.{IfSome, IsSome, MatchOption}
 use Rattle.std.proofs.lemmas.List.{get_or-take, get_or_default}
-use Rattle.obs_matroid.specs.Assignments.{branches, part}
-use Rattle.obs_matroid.specs.Slots.{pairs_of}
-use Rattle.obs_forest.specs.Forest.{StandsOver}
-use Rattle.obs_assign.specs.Assignment.{Assignment, has_flag}
-use Rattle.obs_assign.specs.Kept.{seen}
-use Rattle.obs_assign.specs.Pins.{MayPin, joins}
-use Rattle.obs_assign.specs.Spare.{IsSpare}
+use Rattle.obs_matroid.specs.Assignments.{branches}
+use Rattle.obs_matroid.specs.inner.Assignments.{part}
+use Rattle.obs_matroid.specs.inner.Slots.{pairs_of}
+use Rattle.obs_forest.specs.inner.Forest.{StandsOver}
+use Rattle.obs_assign.specs.Assignment.{Assignment}
+use Rattle.obs_assign.specs.inner.Assignment.{has_flag}
+use Rattle.obs_assign.specs.inner.Kept.{seen}
+use Rattle.obs_assign.specs.inner.Pins.{MayPin, joins}
+use Rattle.obs_assign.specs.inner.Spare.{IsSpare}
 use Rattle.obs_assign.proofs.Paths.{spare_from}
 use Rattle.obs_assign.proofs.assignment.Assignment.spare.Goals as goal
 use Rattle.obs_assign.proofs.assignment.Assignment.spare.Goals.{After-spare_for}

@@ -1,6 +1,6 @@
 use Rattle.std.proofs.Common.{◌+◌, set, sym, ap, ◌∙◌, arith}
 use Rattle.std.proofs.lemmas.List.{length-take-le}
-use Rattle.obs_forest.specs.Forest.{taken}
+use Rattle.obs_forest.specs.inner.Forest.{taken}
 use Rattle.obs_assign.proofs.Listed.{IsAdded}
 use Rattle.obs_assign.proofs.Storing.{added, held_here, stands_here, stored-added}
 use Rattle.obs_assign.proofs.kept.Kept.add.Goals as goal

@@ -1,6 +1,6 @@
 use Rattle.std.proofs.Common.{◌≡◌, ◌++◌, None, length, take, drop, replicate, ap, arith}
 use Rattle.obs_forest.proofs.Lent.{filled_back}
-use Rattle.obs_assign.specs.Kept.{Kept}
+use Rattle.obs_assign.specs.inner.Kept.{Kept}
 use Rattle.obs_assign.proofs.Slotted.{IsForestAt-nil}
 use Rattle.obs_assign.proofs.Storing.{IsStored, stored, stored-cleared}
 use Rattle.obs_assign.proofs.kept.Kept.clear.Goals as goal

@@ -1,10 +1,10 @@
 use Rattle.std.proofs.Common.{◌≡◌, ◌<◌, ◌≤◌, ◌++◌, ℕ, Option, None, Some, List, length, take, drop, get_or, refl, sym, ap, ◌∙◌, subst, arith}
 use Rattle.std.proofs.lemmas.List.{length-take-le}
-use Rattle.obs_graph.specs.Search.{room_of}
+use Rattle.obs_graph.specs.inner.Search.{room_of}
 use Rattle.obs_forest.proofs.Lent.{lent_back, lent_len}
-use Rattle.obs_matroid.specs.Slots.{pairs_of}
-use Rattle.obs_assign.specs.Kept.{Kept, SlotsApart}
-use Rattle.obs_assign.specs.Still.{AreRetained}
+use Rattle.obs_matroid.specs.inner.Slots.{pairs_of}
+use Rattle.obs_assign.specs.inner.Kept.{Kept, SlotsApart}
+use Rattle.obs_assign.specs.inner.Still.{AreRetained}
 use Rattle.obs_assign.proofs.Slotted.{branch_low, slots_apart}
 use Rattle.obs_assign.proofs.Storing.{IsStored, IsStored-made, stored}
 use Rattle.obs_assign.proofs.kept.Kept.retain.Goals as goal

@@ -27,7 +27,7 @@ use Rattle.std.specs.contracts.impls.GlobalAllocator.TheImpl.{ghosts}
 use Rattle.std.proofs.alloc.Global.TheLaws.{the_row_laws as LZ}
 use Rattle.obs_edit.specs.Sessions.{Session}
 use Rattle.obs_edit.specs.contracts.session.Session.{the_row as R}
-use Rattle.obs_c.specs.Kept.{keeps}
+use Rattle.obs_c.specs.inner.Kept.{keeps}
 use Rattle.obs_c.proofs.LooseValues.{both, loose_in, loose_good}
 use Rattle.obs_c.proofs.HandleValues.{found, Held, handle_out}
 use Rattle.obs_c.specs.contracts.handle.Handle.unwrap.{ended, clauses}

@@ -3,8 +3,9 @@ use Rattle.std.proofs.lemmas.List.{length-map}
 use Rattle.obs_text.specs.Names.{is_name}
 use Rattle.obs_case.specs.declared.rows.Node.{Node}
 use Rattle.obs_case.specs.declared.rows.Branch.{Branch}
-use Rattle.obs_case.specs.Adds.{Refuses, first_fault, name_fault, branch_fault, branch_of, with_branch}
-use Rattle.obs_case.specs.Case.{tables_of}
+use Rattle.obs_case.specs.Adds.{branch_of, with_branch}
+use Rattle.obs_case.specs.inner.Adds.{Refuses, first_fault, name_fault, branch_fault}
+use Rattle.obs_case.specs.inner.Case.{tables_of}
 use Rattle.obs_case.specs.Tables.{IsValid, Tables, node_names, branch_names, place_of}
 use Rattle.obs_case.proofs.AddLemmas.{either, ends_within, never_place, never_place_of_ends, no_fault}
 use Rattle.obs_case.proofs.ValidLemmas.{valid-branches}

@@ -2,8 +2,9 @@ use Rattle.std.proofs.Common.{length, ℕ, IfOk, IfErr, OnOk, List, ◌∙◌, �
 use Rattle.std.proofs.lemmas.List.{length-map}
 use Rattle.obs_text.specs.Names.{is_name}
 use Rattle.obs_case.specs.declared.rows.Candidate.{Candidate}
-use Rattle.obs_case.specs.Adds.{Refuses, first_fault, name_fault, place_fault, candidate_fault, candidate_of, with_candidate}
-use Rattle.obs_case.specs.Case.{tables_of}
+use Rattle.obs_case.specs.Adds.{candidate_of, with_candidate}
+use Rattle.obs_case.specs.inner.Adds.{Refuses, first_fault, name_fault, place_fault, candidate_fault}
+use Rattle.obs_case.specs.inner.Case.{tables_of}
 use Rattle.obs_case.specs.Tables.{IsValid, Tables, candidate_names, place_names, place_of, places}
 use Rattle.obs_case.proofs.AddLemmas.{either, never_node, never_node_of_place, no_fault, place_low}
 use Rattle.obs_case.proofs.ValidLemmas.{valid-candidates}

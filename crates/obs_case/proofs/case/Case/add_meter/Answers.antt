@@ -2,8 +2,9 @@ use Rattle.std.proofs.Common.{Bool, length, ℕ, IfOk, IfErr, OnOk, List, ◌∙
 use Rattle.std.proofs.lemmas.List.{length-map}
 use Rattle.obs_text.specs.Names.{is_name}
 use Rattle.obs_case.specs.declared.rows.Meter.{Meter}
-use Rattle.obs_case.specs.Adds.{Refuses, first_fault, name_fault, place_fault, meter_fault, meter_of, with_meter}
-use Rattle.obs_case.specs.Case.{tables_of}
+use Rattle.obs_case.specs.Adds.{meter_of, with_meter}
+use Rattle.obs_case.specs.inner.Adds.{Refuses, first_fault, name_fault, place_fault, meter_fault}
+use Rattle.obs_case.specs.inner.Case.{tables_of}
 use Rattle.obs_case.specs.Tables.{IsValid, Tables, meter_names, place_names, place_of, places}
 use Rattle.obs_case.proofs.AddLemmas.{either, never_node, never_node_of_place, no_fault, place_low}
 use Rattle.obs_case.proofs.ValidLemmas.{valid-meters}

@@ -2,8 +2,8 @@ use Rattle.std.proofs.Common.{◌∙◌, ◌∷◌, ◌++◌, [], ap, false, ref
 use Rattle.std.proofs.lemmas.List.{length-map}
 use Rattle.obs_text.specs.Names.{is_name}
 use Rattle.obs_case.specs.declared.rows.Node.{Node}
-use Rattle.obs_case.specs.Adds.{first_fault, name_fault}
-use Rattle.obs_case.specs.Case.{tables_of}
+use Rattle.obs_case.specs.inner.Adds.{first_fault, name_fault}
+use Rattle.obs_case.specs.inner.Case.{tables_of}
 use Rattle.obs_case.specs.Tables.{IsValid, node_names}
 use Rattle.obs_case.proofs.AddLemmas.{either, no_fault}
 use Rattle.obs_case.proofs.ValidLemmas.{valid-nodes}

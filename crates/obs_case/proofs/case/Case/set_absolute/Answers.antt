@@ -1,7 +1,8 @@
 use Rattle.std.proofs.Common.{◌≡◌, ◌∙◌, ◌<◌, ℕ, List, ap, get_or, length, refl, subst, sym}
 use Rattle.obs_case.specs.declared.rows.Node.{Node}
-use Rattle.obs_case.specs.Case.{tables_of}
-use Rattle.obs_case.specs.Flags.{changed_at, with_absolute}
+use Rattle.obs_case.specs.inner.Case.{tables_of}
+use Rattle.obs_case.specs.Flags.{changed_at}
+use Rattle.obs_case.specs.inner.Flags.{with_absolute}
 use Rattle.obs_case.specs.Tables.{IsValid, Tables}
 use Rattle.obs_case.proofs.RowLemmas.{has_name-set, set-row}
 use Rattle.obs_case.proofs.ValidLemmas.{valid-with_absolute}

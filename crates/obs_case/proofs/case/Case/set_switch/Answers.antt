@@ -1,6 +1,6 @@
 use Rattle.std.proofs.Common.{◌≡◌, ◌∙◌, ◌<◌, ℕ, List, ap, get_or, length, refl, subst, sym}
 use Rattle.obs_case.specs.declared.rows.Switch.{Switch}
-use Rattle.obs_case.specs.Case.{tables_of}
+use Rattle.obs_case.specs.inner.Case.{tables_of}
 use Rattle.obs_case.specs.Flags.{changed_at, with_closed}
 use Rattle.obs_case.specs.Tables.{IsValid, Tables}
 use Rattle.obs_case.proofs.RowLemmas.{has_name-set, set-row}

@@ -1,5 +1,5 @@
 use Rattle.std.proofs.Common.{ap, length, ◌∙◌, arith}
-use Rattle.obs_cert.specs.Walked.{parts_in}
+use Rattle.obs_cert.specs.inner.Walked.{parts_in}
 use Rattle.obs_cert.proofs.SaidLemmas.{walked}
 use Rattle.obs_cert.proofs.cert.Cert.bytes.Goals as goal
 

@@ -1,7 +1,7 @@
 use Rattle.std.proofs.Common.{◌≡◌, ◌+◌, length, sym, ap, ◌∙◌, subst, arith}
 use Rattle.std.proofs.lemmas.List.{with_items_is}
 use Rattle.obs_network.specs.Network.{Network, network_of}
-use Rattle.obs_cert.specs.Ready.{HasRoom}
+use Rattle.obs_cert.specs.inner.Ready.{HasRoom}
 use Rattle.obs_cert.proofs.checker.Checker.check.Goals as goal
 use Rattle.obs_cert.proofs.checker.Checker.check.Goals.{After-deref_mut}
 

@@ -2,7 +2,7 @@ use Rattle.std.proofs.Common.{◌<◌, ℕ, List, [], ◌∷◌, length, take, s
 use Rattle.std.proofs.lemmas.List.{take_more_set}
 use Rattle.obs_matroid.specs.Lists.{In}
 use Rattle.obs_matroid.proofs.Lists.{In-append_cases}
-use Rattle.obs_cert.specs.Hubs.{Hubs}
+use Rattle.obs_cert.specs.inner.Hubs.{Hubs}
 use Rattle.obs_cert.proofs.hubs.Hubs.add.Goals as goal
 
 pub returns-then-self-len-clause-added : goal.returns-then-self-len-clause-added

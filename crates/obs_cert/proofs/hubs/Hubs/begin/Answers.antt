@@ -1,6 +1,6 @@
 use Rattle.std.proofs.Common.{subst, inl, inr}
 use Rattle.obs_matroid.specs.Lists.{In}
-use Rattle.obs_cert.specs.Hubs.{Hubs}
+use Rattle.obs_cert.specs.inner.Hubs.{Hubs}
 use Rattle.obs_cert.proofs.hubs.Hubs.begin.Goals as goal
 
 pub returns-in-Star-clause-contracted : goal.returns-in-Star-clause-contracted

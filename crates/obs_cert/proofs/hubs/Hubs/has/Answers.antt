@@ -1,6 +1,6 @@
 use Rattle.std.proofs.Common.{ℕ, List, take, ap, ◌∙◌, subst}
 use Rattle.obs_matroid.specs.Lists.{In}
-use Rattle.obs_cert.specs.Hubs.{Hubs}
+use Rattle.obs_cert.specs.inner.Hubs.{Hubs}
 use Rattle.obs_cert.proofs.hubs.Hubs.has.Goals as goal
 
 pub returns : goal.returns

@@ -1,7 +1,7 @@
 use Rattle.std.proofs.Common.{◌+◌, ◌<◌, All, List, ℕ, length, sym, ap, ◌∙◌, subst, arith}
-use Rattle.obs_meter.specs.Sizes.{HasRoomFor, Sizes}
+use Rattle.obs_meter.specs.inner.Sizes.{HasRoomFor, Sizes}
 use Rattle.obs_placement.specs.Placed.{placement_of}
-use Rattle.obs_edit.specs.Planned.{Planning}
+use Rattle.obs_edit.specs.inner.Planned.{Planning}
 use Rattle.obs_edit.proofs.PlanFirst.{chosen_offered}
 use Rattle.obs_edit.proofs.placing.Placing.find.Goals as goal
 

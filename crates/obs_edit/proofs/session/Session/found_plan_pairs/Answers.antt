@@ -1,5 +1,5 @@
 use Rattle.std.proofs.Common.{◌∙◌, ap}
-use Rattle.obs_assign.specs.Assignment.{pairs}
+use Rattle.obs_assign.specs.inner.Assignment.{pairs}
 use Rattle.obs_edit.specs.Planned.{case_placed_pairs}
 use Rattle.obs_edit.specs.Sessions.{Session}
 use Rattle.obs_edit.proofs.session.Session.found_plan_pairs.Goals as goal

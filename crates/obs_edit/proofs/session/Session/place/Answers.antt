@@ -1,6 +1,6 @@
 use Rattle.std.proofs.Common.{refl, ◌∙◌, ap, subst}
 use Rattle.obs_case.specs.Tables.{Tables}
-use Rattle.obs_assign.specs.Assignment.{StandsOver}
+use Rattle.obs_assign.specs.inner.Assignment.{StandsOver}
 use Rattle.obs_network.specs.Network.{case_offered, network_of}
 use Rattle.obs_edit.specs.Planned.{case_placed_pairs, case_placement}
 use Rattle.obs_edit.proofs.session.Session.place.Goals as goal

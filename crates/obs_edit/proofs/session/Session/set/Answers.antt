@@ -1,14 +1,16 @@
 use Rattle.std.proofs.Common.{ap, inl, inr, ℕ, ◌+◌, ◌≡◌, ◌∙◌, length, refl, sym, subst}
 use Rattle.std.specs.Prelude.{take}
 use Rattle.obs_case.specs.Tables.{Tables}
-use Rattle.obs_assign.specs.Assignment.{StandsOver, pairs}
+use Rattle.obs_assign.specs.inner.Assignment.{StandsOver, pairs}
 use Rattle.obs_network.specs.Network.{case_meters, network_of}
 use Rattle.obs_edit.specs.declared.hand.AtHand.{AtHand}
-use Rattle.obs_repair.specs.Edits.{HasRow, IsRepaired, TakesOne, edited}
-use Rattle.obs_repair.specs.Parts.{BoundsWhereKnown, HasRoomForParts}
-use Rattle.obs_repair.specs.Kept.{HasRoom}
-use Rattle.obs_edit.specs.Edits.{IsEdited}
-use Rattle.obs_edit.specs.Sessions.{HasRoomToAnswer, Session}
+use Rattle.obs_repair.specs.Edits.{edited}
+use Rattle.obs_repair.specs.inner.Edits.{HasRow, IsRepaired, TakesOne}
+use Rattle.obs_repair.specs.inner.Parts.{BoundsWhereKnown, HasRoomForParts}
+use Rattle.obs_repair.specs.inner.Kept.{HasRoom}
+use Rattle.obs_edit.specs.inner.Edits.{IsEdited}
+use Rattle.obs_edit.specs.Sessions.{Session}
+use Rattle.obs_edit.specs.inner.Sessions.{HasRoomToAnswer}
 use Rattle.obs_repair.proofs.Flagged.{valid_now}
 use Rattle.obs_repair.proofs.OfNetwork.{rank_of_longest}
 use Rattle.obs_repair.proofs.PartRoom.{parts_room-edited}

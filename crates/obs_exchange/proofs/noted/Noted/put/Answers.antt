@@ -1,6 +1,6 @@
 use Rattle.std.proofs.Common.{◌≡◌, length, ap, ◌∙◌, arith}
 use Rattle.obs_graph.proofs.Stored.{written_back}
-use Rattle.obs_exchange.specs.Noting.{Noted}
+use Rattle.obs_exchange.specs.inner.Noting.{Noted}
 use Rattle.obs_exchange.proofs.noted.Noted.put.Goals as goal
 
 pub put-requires : goal.put-requires

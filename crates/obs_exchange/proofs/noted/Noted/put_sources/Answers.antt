@@ -2,10 +2,10 @@ use Rattle.std.specs.Prelude.{◌<◌, true}
 use Rattle.std.proofs.Common.{◌≡◌, Bool, List, length, ap, sym, subst, ◌∙◌, arith}
 use Rattle.obs_graph.proofs.Stored.{written_back}
 use Rattle.obs_meter.proofs.Live.{live_low}
-use Rattle.obs_assign.specs.Assignment.{has_flag}
+use Rattle.obs_assign.specs.inner.Assignment.{has_flag}
 use Rattle.obs_exchange.specs.declared.Sources.{Sources}
-use Rattle.obs_exchange.specs.Noting.{Noted}
-use Rattle.obs_exchange.specs.Setting.{IsSourceIn, end_of, first_of}
+use Rattle.obs_exchange.specs.inner.Noting.{Noted}
+use Rattle.obs_exchange.specs.inner.Setting.{IsSourceIn, end_of, first_of}
 use Rattle.obs_exchange.proofs.noted.Noted.put_sources.Goals as goal
 
 pub new-over-requires : goal.new-over-requires

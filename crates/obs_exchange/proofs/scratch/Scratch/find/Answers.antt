@@ -2,8 +2,8 @@ use Rattle.std.specs.Prelude.{MatchResult}
 use Rattle.std.proofs.Common.{◌≡◌, List, length, ap, sym, subst, ◌∙◌, arith}
 use Rattle.obs_graph.proofs.Stored.{written_back}
 use Rattle.obs_assign.specs.declared.Move.{Move}
-use Rattle.obs_exchange.specs.Searching.{HasPath, HasReached}
-use Rattle.obs_exchange.specs.Trail.{Scratch}
+use Rattle.obs_exchange.specs.inner.Searching.{HasPath, HasReached}
+use Rattle.obs_exchange.specs.inner.Trail.{Scratch}
 use Rattle.obs_exchange.proofs.scratch.Scratch.find.Goals as goal
 
 pub find-requires : goal.find-requires

@@ -1,6 +1,6 @@
 use Rattle.std.proofs.Common.{ℕ, List, false, length, ap, ◌∙◌, arith}
 use Rattle.std.proofs.lemmas.List.{length-replicate}
-use Rattle.obs_exchange.specs.Trail.{Trail}
+use Rattle.obs_exchange.specs.inner.Trail.{Trail}
 use Rattle.obs_exchange.proofs.scratch.Scratch.make.Goals as goal
 
 pub invariant_of-result : goal.invariant_of-result

@@ -1,5 +1,5 @@
 use Rattle.std.proofs.Common.{length, ap, sym, ◌∙◌, arith}
-use Rattle.obs_exchange.specs.Trail.{Scratch}
+use Rattle.obs_exchange.specs.inner.Trail.{Scratch}
 use Rattle.obs_exchange.proofs.scratch.Scratch.spread_in_order.Goals as goal
 
 pub spread_in_order-requires : goal.spread_in_order-requires

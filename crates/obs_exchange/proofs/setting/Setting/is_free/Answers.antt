@@ -1,4 +1,4 @@
-use Rattle.obs_exchange.specs.Setting.{shut_by}
+use Rattle.obs_exchange.specs.inner.Setting.{shut_by}
 use Rattle.obs_exchange.proofs.Walking.{free_is}
 use Rattle.obs_exchange.proofs.setting.Setting.is_free.Goals as goal
 

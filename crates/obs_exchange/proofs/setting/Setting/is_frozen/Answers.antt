@@ -1,5 +1,5 @@
 use Rattle.std.proofs.Common.{◌≡◌, ◌||◌, ◌&&◌, Bool, true, false, None, is_some, get_or, sym, ap, ◌∙◌, arith}
-use Rattle.obs_assign.specs.Assignment.{has_flag}
+use Rattle.obs_assign.specs.inner.Assignment.{has_flag}
 use Rattle.obs_exchange.proofs.Shut.{frozen_is, length-frozen_by, no_flag_beyond}
 use Rattle.obs_exchange.proofs.setting.Setting.is_frozen.Goals as goal
 

@@ -1,9 +1,9 @@
 use Rattle.std.proofs.Common.{ℕ, refl, sym, subst, ap, ◌∙◌}
 use Rattle.obs_graph.specs.Joined.{IsForest}
 use Rattle.obs_graph.specs.Positions.{present}
-use Rattle.obs_forest.specs.Cycle.{AreWays}
+use Rattle.obs_forest.specs.inner.Cycle.{AreWays}
 use Rattle.obs_forest.specs.Forest.{Forest}
-use Rattle.obs_exchange.specs.Setting.{IsSound}
+use Rattle.obs_exchange.specs.inner.Setting.{IsSound}
 use Rattle.obs_exchange.proofs.Shut.{IsSound-shut}
 use Rattle.obs_exchange.proofs.setting.Setting.shut.Goals as goal
 use Rattle.obs_exchange.proofs.setting.Setting.shut.Goals.{After-ways-ways}

@@ -1,5 +1,5 @@
 use Rattle.std.proofs.Common.{Bool, List, length, ap, ◌∙◌}
-use Rattle.obs_exchange.specs.Stars.{fronts_of}
+use Rattle.obs_exchange.specs.inner.Stars.{fronts_of}
 use Rattle.obs_exchange.proofs.Fronts.{fronts_of-none, length-fronts_of}
 use Rattle.obs_exchange.proofs.stars.Stars.clear.Goals as goal
 

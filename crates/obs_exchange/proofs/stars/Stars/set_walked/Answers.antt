@@ -1,5 +1,5 @@
 use Rattle.std.proofs.Common.{arith, ap, ◌∙◌, set, Bool, List, ℕ}
-use Rattle.obs_exchange.specs.Stars.{fronts_of}
+use Rattle.obs_exchange.specs.inner.Stars.{fronts_of}
 use Rattle.obs_exchange.proofs.Fronts.{flag_low, fronts_of-set}
 use Rattle.obs_exchange.proofs.stars.Stars.set_walked.Goals as goal
 

@@ -1,8 +1,8 @@
 use Rattle.std.proofs.Common.{◌≡◌, false, length, refl, sym, ap, ◌∙◌, arith}
 use Rattle.std.proofs.lemmas.List.{length-replicate}
 use Rattle.obs_meter.specs.Held.{Meters}
-use Rattle.obs_exchange.specs.Noting.{Noted}
-use Rattle.obs_exchange.specs.Trail.{Trail}
+use Rattle.obs_exchange.specs.inner.Noting.{Noted}
+use Rattle.obs_exchange.specs.inner.Trail.{Trail}
 use Rattle.obs_exchange.proofs.work.Work.make.Goals as goal
 
 pub invariant_of-result : goal.invariant_of-result

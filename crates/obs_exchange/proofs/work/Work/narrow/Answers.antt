@@ -1,6 +1,6 @@
 use Rattle.std.proofs.Common.{◌≡◌, ◌<◌, ◌&&◌, ◌∙◌, ℕ, Bool, List, length, take, ap, subst}
 use Rattle.obs_graph.proofs.Stored.{written_back}
-use Rattle.obs_assign.specs.Assignment.{has_flag}
+use Rattle.obs_assign.specs.inner.Assignment.{has_flag}
 use Rattle.obs_exchange.proofs.work.Work.narrow.Goals as goal
 
 pub returns-clause-loose : goal.returns-clause-loose

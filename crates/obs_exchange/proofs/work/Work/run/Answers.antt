@@ -1,11 +1,11 @@
 use Rattle.std.proofs.Common.{◌≡◌, List, length, take, refl, ap, sym, subst, ◌∙◌, arith}
 use Rattle.obs_graph.specs.Graph.{Graph}
 use Rattle.obs_meter.specs.declared.Touch.{Touch}
-use Rattle.obs_meter.specs.Touches.{AreInRange}
-use Rattle.obs_assign.specs.Assignment.{StandsOver}
-use Rattle.obs_exchange.specs.Found.{AreListed, HasClosed, HasGrown, Work, searched}
-use Rattle.obs_exchange.specs.Noting.{AreNoted, Noted}
-use Rattle.obs_exchange.specs.Setting.{shut_by}
+use Rattle.obs_meter.specs.inner.Touches.{AreInRange}
+use Rattle.obs_assign.specs.inner.Assignment.{StandsOver}
+use Rattle.obs_exchange.specs.inner.Found.{AreListed, HasClosed, HasGrown, Work, searched}
+use Rattle.obs_exchange.specs.inner.Noting.{AreNoted, Noted}
+use Rattle.obs_exchange.specs.inner.Setting.{shut_by}
 use Rattle.obs_exchange.proofs.Beginning.{sources_low}
 use Rattle.obs_exchange.proofs.Closing.{HasClosed-flags}
 use Rattle.obs_exchange.proofs.work.Work.run.Goals as goal

@@ -1,7 +1,7 @@
 use Rattle.std.proofs.Common.{ℕ, length, ap, sym, ◌∙◌, subst, arith}
 use Rattle.obs_graph.specs.Graph.{Graph}
-use Rattle.obs_exchange.specs.Found.{Work}
-use Rattle.obs_exchange.specs.Ordered.{IsOrder}
+use Rattle.obs_exchange.specs.inner.Found.{Work}
+use Rattle.obs_exchange.specs.inner.Ordered.{IsOrder}
 use Rattle.obs_exchange.proofs.work.Work.run_in_order.Goals as goal
 
 pub spread_in_order-requires : goal.spread_in_order-requires

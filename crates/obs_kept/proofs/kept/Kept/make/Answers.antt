@@ -1,6 +1,6 @@
 use Rattle.std.proofs.Common.{sym, subst}
 use Rattle.obs_graph.specs.Graph.{Graph}
-use Rattle.obs_meter.specs.Touches.{AreInRange}
+use Rattle.obs_meter.specs.inner.Touches.{AreInRange}
 use Rattle.obs_kept.proofs.OfNetwork.{fits_network, most_network, room_network}
 use Rattle.obs_kept.proofs.kept.Kept.make.Goals as goal
 

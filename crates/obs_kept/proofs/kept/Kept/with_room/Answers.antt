@@ -1,7 +1,7 @@
 use Rattle.std.proofs.Common.{List, length, ap}
 use Rattle.obs_assign.specs.Assignment.{Assignment}
 use Rattle.obs_case.specs.declared.rows.Meter.{Meter}
-use Rattle.obs_exchange.specs.Found.{Work}
+use Rattle.obs_exchange.specs.inner.Found.{Work}
 use Rattle.obs_kept.proofs.OfNetwork.{room_made}
 use Rattle.obs_kept.proofs.kept.Kept.with_room.Goals as goal
 

@@ -1,5 +1,5 @@
 use Rattle.std.proofs.Common.{◌≡◌, ◌+◌, ◌*◌, length}
-use Rattle.obs_matpower.specs.Left.{rows_left}
+use Rattle.obs_matpower.specs.inner.Left.{rows_left}
 use Rattle.obs_matpower.proofs.row_iter.RowsIterator.next.Given as goal
 
 abbrev pub invariant-loop-code : goal.invariant-loop-code

@@ -1,6 +1,6 @@
 use Rattle.std.proofs.Common.{◌∙◌, length, ap, arith}
 use Rattle.obs_graph.proofs.Stored.{written_back}
-use Rattle.obs_network.specs.Kept.{Listed}
+use Rattle.obs_network.specs.inner.Kept.{Listed}
 use Rattle.obs_network.proofs.live_meters.LiveMeters.refill.Goals as goal
 
 pub write_members-requires-clause-meters : goal.write_members-requires-clause-meters

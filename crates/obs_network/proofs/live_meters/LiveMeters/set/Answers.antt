@@ -1,6 +1,6 @@
 use Rattle.std.proofs.Common.{length, set, take, ap, ◌∙◌, arith}
 use Rattle.obs_graph.proofs.Stored.{written_back}
-use Rattle.obs_network.specs.Kept.{Listed}
+use Rattle.obs_network.specs.inner.Kept.{Listed}
 use Rattle.obs_network.proofs.live_meters.LiveMeters.set.Goals as goal
 
 pub change_list-requires-clause-list : goal.change_list-requires-clause-list

@@ -6,9 +6,9 @@ use Rattle.obs_graph.proofs.Stored.{written_back}
 use Rattle.obs_meter.specs.Held.{Meters}
 use Rattle.obs_network.specs.contracts.network.Network.{the_view}
 use Rattle.obs_network.specs.Network.{Components, Network, Rows}
-use Rattle.obs_network.specs.Edited.{AreSameBut}
+use Rattle.obs_network.specs.inner.Edited.{AreSameBut}
 use Rattle.std.proofs.lemmas.List.{length-map}
-use Rattle.obs_network.specs.Following.{followed}
+use Rattle.obs_network.specs.inner.Following.{followed}
 use Rattle.obs_network.proofs.FollowedCase.{IsFollowed, follows, listed_far}
 use Rattle.obs_network.proofs.Items.{meters-in_range, offered-in_range}
 use Rattle.obs_network.specs.Switched.{case_bus_count}

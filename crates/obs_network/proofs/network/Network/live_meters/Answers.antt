@@ -1,7 +1,7 @@
 use Rattle.std.proofs.Common.{◌≡◌, ◌∙◌, ℕ, List, ap, length, arith}
 use Rattle.obs_switch.specs.Groups.{items_with}
 use Rattle.obs_network.specs.Network.{Network}
-use Rattle.obs_network.specs.Located.{live_meters_of}
+use Rattle.obs_network.specs.inner.Located.{live_meters_of}
 use Rattle.obs_network.proofs.Listed.{listed_meters, live_meters-below}
 use Rattle.obs_network.proofs.network.Network.live_meters.Goals as goal
 

@@ -2,7 +2,7 @@ use Rattle.std.proofs.Common.{◌≡◌, ◌∙◌, ℕ, sym, ap, ◌<◌, lengt
 use Rattle.obs_meter.specs.declared.Touch.TheVariants.{Nothing}
 use Rattle.std.proofs.lemmas.List.Elements.{All-get_or}
 use Rattle.obs_meter.specs.Held.{Meters}
-use Rattle.obs_meter.specs.Touches.{IsInRange}
+use Rattle.obs_meter.specs.inner.Touches.{IsInRange}
 use Rattle.obs_case.specs.Tables.{Tables}
 use Rattle.obs_network.specs.contracts.network.Network.{the_view}
 use Rattle.obs_network.specs.Network.{Network, case_meters, case_offered}

@@ -2,7 +2,7 @@ use Rattle.std.proofs.Common.{◌+◌, ◌-◌, ◌*◌, ◌≤◌, ◌≡◌, �
 use Rattle.obs_graph.specs.Graph.{Graph}
 use Rattle.obs_switch.specs.Held.{Buses}
 use Rattle.obs_network.specs.declared.rebuild.Known.{Known}
-use Rattle.obs_network.specs.Edited.{IsKnown}
+use Rattle.obs_network.specs.inner.Edited.{IsKnown}
 use Rattle.obs_network.specs.Network.{Network, Rows, case_needed, network_of}
 use Rattle.obs_network.proofs.Items.{meters-in_range, offered-in_range}
 use Rattle.obs_network.proofs.OfCase.{case_bus_count-le, case_component_count-le, case_vertex_count-le, few_nodes, length-case_components, length-case_first_buses, length-case_meters}

@@ -1,6 +1,6 @@
 use Rattle.std.proofs.Common.{length, sym, ap, ◌∙◌, arith}
 use Rattle.obs_graph.proofs.Stored.{written_back}
-use Rattle.obs_network.specs.Sides.{Sides}
+use Rattle.obs_network.specs.inner.Sides.{Sides}
 use Rattle.obs_network.proofs.sides.Sides.walk.Goals as goal
 
 pub part-requires-clause-places : goal.part-requires-clause-places

@@ -2,10 +2,10 @@ use Rattle.std.proofs.Common.{◌≡◌, ℕ, Option, List, length, take, refl, 
 use Rattle.obs_graph.specs.declared.Ends.{Ends}
 use Rattle.obs_graph.specs.Graph.{Graph}
 use Rattle.obs_case.specs.declared.rows.Branch.{Branch}
-use Rattle.obs_network.specs.Bridges.{AreBridges}
+use Rattle.obs_network.specs.inner.Bridges.{AreBridges}
 use Rattle.obs_network.specs.Network.{Network, case_branches, case_rows}
 use Rattle.obs_network.proofs.OfCase.{case_vertex_count-le, few_branches, length-case_branches}
-use Rattle.obs_outage.specs.Feeds.{HasFeedRoom}
+use Rattle.obs_outage.specs.inner.Feeds.{HasFeedRoom}
 use Rattle.obs_outage.proofs.Joined.{rows_first}
 use Rattle.obs_outage.proofs.basis.Basis.find_bridges.Goals as goal
 

@@ -2,10 +2,10 @@ use Rattle.std.proofs.Common.{◌≡◌, ◌<◌, ℕ, length, sym, ap, ◌∙�
 use Rattle.std.specs.Prelude.{slice_index}
 use Rattle.obs_case.specs.declared.rows.Node.{Node}
 use Rattle.obs_graph.proofs.Stored.{written_back}
-use Rattle.obs_network.specs.Components.{source_nodes}
+use Rattle.obs_network.specs.inner.Components.{source_nodes}
 use Rattle.obs_network.specs.Network.{Network, node_component}
 use Rattle.obs_network.proofs.OfCase.{case_bus_count-le, case_component_count-le, length-case_buses, length-case_first_buses}
-use Rattle.obs_outage.specs.Feeds.{Feeds, bus_at, sources_at}
+use Rattle.obs_outage.specs.inner.Feeds.{Feeds, bus_at, sources_at}
 use Rattle.obs_outage.proofs.feeds.Feeds.count.Goals as goal
 
 pub count_by_bus-requires-clause-nodes : goal.count_by_bus-requires-clause-nodes

@@ -1,8 +1,8 @@
 use Rattle.std.proofs.Common.{◌≡◌, ℕ, ◌≤◌, length, take, sym, ap, ◌∙◌, subst, List, arith}
 use Rattle.obs_graph.proofs.Stored.{written_back}
 use Rattle.obs_network.specs.Network.{Network}
-use Rattle.obs_outage.specs.Outages.{Outages}
-use Rattle.obs_outage.specs.Feeds.{HasFeedRoom}
+use Rattle.obs_outage.specs.inner.Outages.{Outages}
+use Rattle.obs_outage.specs.inner.Feeds.{HasFeedRoom}
 use Rattle.obs_outage.specs.declared.outages.Outage.{Outage}
 use Rattle.obs_outage.proofs.Readied.{longest_of}
 use Rattle.obs_outage.proofs.outages.Outages.find_list.Goals as goal

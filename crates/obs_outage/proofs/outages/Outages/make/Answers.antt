@@ -2,12 +2,12 @@ use Rattle.std.proofs.Common.{ℕ, List, length, refl, sym, ap, ◌∙◌, subst
 use Rattle.obs_graph.specs.Positions.{AreBranches}
 use Rattle.obs_network.proofs.OfCase.{case_branches-are, few_branches, length-case_branches}
 use Rattle.obs_case.specs.declared.rows.Branch.{Branch}
-use Rattle.obs_meter.specs.Sizes.{HasRoomFor}
-use Rattle.obs_kept.specs.Kept.{AreLongestOver}
+use Rattle.obs_meter.specs.inner.Sizes.{HasRoomFor}
+use Rattle.obs_kept.specs.inner.Kept.{AreLongestOver}
 use Rattle.obs_kept.proofs.OfNetwork.{room_network}
 use Rattle.obs_network.specs.Network.{Network}
-use Rattle.obs_outage.specs.Feeds.{HasFeedRoom}
-use Rattle.obs_outage.specs.Sparing.{HasFlags}
+use Rattle.obs_outage.specs.inner.Feeds.{HasFeedRoom}
+use Rattle.obs_outage.specs.inner.Sparing.{HasFlags}
 use Rattle.obs_outage.proofs.outages.Outages.make.Goals as goal
 
 pub invariant_of-result : goal.invariant_of-result

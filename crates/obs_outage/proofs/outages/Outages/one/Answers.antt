@@ -2,8 +2,8 @@ use Rattle.std.proofs.Common.{◌≡◌, ℕ, sym, ap, ◌∙◌, subst}
 use Rattle.obs_assign.specs.Assignment.{Assignment}
 use Rattle.obs_network.specs.Network.{Network}
 use Rattle.obs_kept.specs.declared.kept.Kept.{Kept}
-use Rattle.obs_outage.specs.Outages.{AllStand, Outages}
-use Rattle.obs_outage.specs.Feeds.{HasFeedRoom}
+use Rattle.obs_outage.specs.inner.Outages.{AllStand, Outages}
+use Rattle.obs_outage.specs.inner.Feeds.{HasFeedRoom}
 use Rattle.obs_outage.proofs.Readied.{longest_of}
 use Rattle.obs_outage.proofs.outages.Outages.one.Goals as goal
 

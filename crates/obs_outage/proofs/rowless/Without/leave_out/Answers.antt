@@ -2,7 +2,7 @@ use Rattle.std.proofs.Common.{None, List, Option, map, set, ap, ◌∙◌}
 use Rattle.obs_graph.specs.declared.Ends.{Ends}
 use Rattle.obs_graph.specs.Graph.{Graph}
 use Rattle.obs_meter.specs.Held.{Meters}
-use Rattle.obs_outage.specs.Without.{left_out}
+use Rattle.obs_outage.specs.inner.Without.{left_out}
 use Rattle.obs_outage.proofs.rowless.Without.leave_out.Goals as goal
 
 pub returns : goal.returns

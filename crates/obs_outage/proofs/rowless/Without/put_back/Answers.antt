@@ -3,7 +3,7 @@ use Rattle.std.proofs.lemmas.List.{get_or_default, length-map, set-get_or, set-s
 use Rattle.obs_graph.specs.declared.Ends.{Ends}
 use Rattle.obs_graph.specs.Graph.{Graph}
 use Rattle.obs_meter.specs.declared.Touch.{Touch}
-use Rattle.obs_outage.specs.Without.{left_out}
+use Rattle.obs_outage.specs.inner.Without.{left_out}
 use Rattle.obs_outage.proofs.rowless.Without.put_back.Goals as goal
 
 pub returns : goal.returns

@@ -5,16 +5,18 @@ use Rattle.obs_graph.proofs.Stored.{written_back}
 use Rattle.obs_case.specs.declared.rows.Branch.{Branch}
 use Rattle.obs_matroid.specs.Lists.{In}
 use Rattle.obs_meter.specs.Held.{Meters}
-use Rattle.obs_meter.specs.Touches.{AreInRange, live_items, touch_at}
-use Rattle.obs_assign.specs.Assignment.{Assignment, has_flag}
+use Rattle.obs_meter.specs.Touches.{live_items, touch_at}
+use Rattle.obs_meter.specs.inner.Touches.{AreInRange}
+use Rattle.obs_assign.specs.Assignment.{Assignment}
+use Rattle.obs_assign.specs.inner.Assignment.{has_flag}
 use Rattle.obs_exchange.specs.declared.Sources.TheVariants.{All}
 use Rattle.obs_exchange.specs.Critical.{IsCriticalAt}
-use Rattle.obs_exchange.specs.Found.{HasClosed}
+use Rattle.obs_exchange.specs.inner.Found.{HasClosed}
 use Rattle.obs_network.specs.Network.{Network}
 use Rattle.obs_network.proofs.OfCase.{length-case_branches, few_branches}
-use Rattle.obs_kept.specs.Kept.{AreLongest, AreLongestOver}
+use Rattle.obs_kept.specs.inner.Kept.{AreLongest, AreLongestOver}
 use Rattle.obs_kept.proofs.OfNetwork.{branches_network, room_network}
-use Rattle.obs_outage.specs.Sparing.{Spared}
+use Rattle.obs_outage.specs.inner.Sparing.{Spared}
 use Rattle.obs_outage.proofs.Costing.{closed_there, costly_network, longest_there}
 use Rattle.obs_outage.proofs.Fitting.{back_length, vertices_there}
 use Rattle.obs_outage.proofs.Needed.{critical_outside}

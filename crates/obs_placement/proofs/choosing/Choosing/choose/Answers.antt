@@ -1,8 +1,8 @@
 use Rattle.std.proofs.Common.{◌≡◌, ◌≤◌, length, sym, ap, ◌∙◌, subst, arith}
 use Rattle.obs_graph.proofs.Stored.{written_back}
-use Rattle.obs_meter.specs.Sizes.{Sizes}
-use Rattle.obs_placement.specs.Choosing.{Choosing}
-use Rattle.obs_placement.specs.Offer.{HasRoomForOffer}
+use Rattle.obs_meter.specs.inner.Sizes.{Sizes}
+use Rattle.obs_placement.specs.inner.Choosing.{Choosing}
+use Rattle.obs_placement.specs.inner.Offer.{HasRoomForOffer}
 use Rattle.obs_placement.proofs.choosing.Choosing.choose.Goals as goal
 
 pub choose_in-self-inside-requires-clause-offer : goal.choose_in-self-inside-requires-clause-offer

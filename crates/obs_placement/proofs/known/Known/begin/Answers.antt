@@ -1,7 +1,7 @@
 use Rattle.std.proofs.Common.{◌≡◌, ◌++◌, false, length, replicate, take, drop, ap, ◌∙◌}
 use Rattle.obs_graph.proofs.Stored.{written_back}
-use Rattle.obs_placement.specs.Holding.{Known}
-use Rattle.obs_placement.specs.Taking.{never}
+use Rattle.obs_placement.specs.inner.Holding.{Known}
+use Rattle.obs_placement.specs.inner.Taking.{never}
 use Rattle.obs_placement.proofs.known.Known.begin.Goals as goal
 
 pub returns : goal.returns

@@ -1,7 +1,7 @@
 use Rattle.std.proofs.Common.{◌<◌, true, length, set, ap, arith, length-set}
 use Rattle.std.proofs.lemmas.List.{length-take-le}
 use Rattle.std.proofs.Math.Seq.{take-set-lt}
-use Rattle.obs_placement.specs.Holding.{Known}
+use Rattle.obs_placement.specs.inner.Holding.{Known}
 use Rattle.obs_placement.proofs.known.Known.touch.Goals as goal
 
 pub returns : goal.returns

@@ -1,6 +1,6 @@
 use Rattle.std.proofs.Common.{◌≡◌, ◌++◌, ◌∙◌, length, take, drop, ap, arith}
 use Rattle.obs_graph.proofs.Stored.{written_back}
-use Rattle.obs_placement.specs.Choosing.{Laying}
+use Rattle.obs_placement.specs.inner.Choosing.{Laying}
 use Rattle.obs_placement.proofs.laying.Laying.begin.Goals as goal
 
 pub put_known_in_order-requires-clause-room : goal.put_known_in_order-requires-clause-room

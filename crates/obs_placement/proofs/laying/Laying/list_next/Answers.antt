@@ -3,10 +3,10 @@ use Rattle.std.specs.Prelude.{filter}
 use Rattle.std.specs.List.{range_with_len}
 use Rattle.std.proofs.lemmas.List.{length-take-le}
 use Rattle.obs_graph.proofs.Stored.{written_back}
-use Rattle.obs_placement.specs.Choosing.{AreFirstBelow, Laying}
-use Rattle.obs_placement.specs.Layers.{is_added}
-use Rattle.obs_placement.specs.Order.{IsOrder}
-use Rattle.obs_placement.specs.Taking.{since_at}
+use Rattle.obs_placement.specs.inner.Choosing.{AreFirstBelow, Laying}
+use Rattle.obs_placement.specs.inner.Layers.{is_added}
+use Rattle.obs_placement.specs.inner.Order.{IsOrder}
+use Rattle.obs_placement.specs.inner.Taking.{since_at}
 use Rattle.obs_placement.proofs.laying.Laying.list_next.Goals as goal
 
 pub returns-clause-listed : goal.returns-clause-listed

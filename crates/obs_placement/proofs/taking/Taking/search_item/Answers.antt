@@ -1,10 +1,11 @@
 use Rattle.std.proofs.Common.{◌≡◌, ◌∙◌, ◌<◌, None, length, ap, sym, subst}
-use Rattle.obs_assign.specs.Assignment.{Assignment, StandsOver, branch_at}
+use Rattle.obs_assign.specs.Assignment.{Assignment}
+use Rattle.obs_assign.specs.inner.Assignment.{StandsOver, branch_at}
 use Rattle.obs_exchange.specs.declared.Sources.TheVariants.{One}
-use Rattle.obs_exchange.specs.Found.{HasClosed, HasGrown}
-use Rattle.obs_placement.specs.Holding.{StandsBeside, Taking}
-use Rattle.obs_placement.specs.Offer.{HasRoomForOffer}
-use Rattle.obs_placement.specs.Taking.{AreKept}
+use Rattle.obs_exchange.specs.inner.Found.{HasClosed, HasGrown}
+use Rattle.obs_placement.specs.inner.Holding.{StandsBeside, Taking}
+use Rattle.obs_placement.specs.inner.Offer.{HasRoomForOffer}
+use Rattle.obs_placement.specs.inner.Taking.{AreKept}
 use Rattle.obs_placement.proofs.Flagged.{listed_low}
 use Rattle.obs_placement.proofs.Takes.{takes_closed, takes_grown, takes_source}
 use Rattle.obs_placement.proofs.taking.Taking.search_item.Goals as goal

@@ -1,5 +1,5 @@
 use Rattle.std.proofs.Common.{sym, ap, subst}
-use Rattle.obs_placement.specs.Holding.{AreFlagged, IsTouchedByKnown, Taking}
+use Rattle.obs_placement.specs.inner.Holding.{AreFlagged, IsTouchedByKnown, Taking}
 use Rattle.obs_placement.proofs.Takes.{takes_joined}
 use Rattle.obs_placement.proofs.taking.Taking.take.Goals as goal
 

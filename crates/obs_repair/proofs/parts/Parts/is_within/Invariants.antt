@@ -1,6 +1,6 @@
 use Rattle.std.proofs.Common.{◌≡◌, drop}
 use Rattle.std.specs.List.{list_all}
-use Rattle.obs_repair.specs.Parts.{is_inside}
+use Rattle.obs_repair.specs.inner.Parts.{is_inside}
 use Rattle.obs_repair.proofs.parts.Parts.is_within.Given as goal
 
 abbrev pub invariant-loop-e : goal.invariant-loop-e

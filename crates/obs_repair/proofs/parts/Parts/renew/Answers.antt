@@ -1,7 +1,7 @@
 use Rattle.std.proofs.Common.{◌≡◌, ◌∙◌, Some, List, Option, length, ap, subst}
 use Rattle.std.specs.Prelude.{slice_index_or, None}
 use Rattle.obs_graph.specs.declared.Ends.{Ends}
-use Rattle.obs_graph.specs.Search.{IsRooted}
+use Rattle.obs_graph.specs.inner.Search.{IsRooted}
 use Rattle.obs_graph.proofs.Present.{present_low}
 use Rattle.obs_graph.proofs.Stored.{written_back}
 use Rattle.obs_meter.specs.declared.Touch.{Touch}

@@ -1,7 +1,7 @@
 use Rattle.std.proofs.Common.{◌≡◌, ◌++◌, [], length, map, refl, sym, arith}
 use Rattle.std.specs.Prelude.{◌==◌}
 use Rattle.std.proofs.lemmas.List.{get_or-map, length-map}
-use Rattle.obs_report.specs.Lines.{word_text}
+use Rattle.obs_report.specs.inner.Lines.{word_text}
 use Rattle.obs_report.proofs.LineLemmas.{line_is, word_more, word_none}
 use Rattle.obs_report.proofs.Printing.{nothing_printed, then_line, then_printed}
 use Rattle.obs_report.proofs.line_buffer.LineBuffer.line.Goals as goal

@@ -1,6 +1,6 @@
 use Rattle.std.proofs.Common.{◌≡◌, ◌++◌, ℕ, List, drop, map, true}
 use Rattle.std.specs.Prelude.{◌==◌}
-use Rattle.obs_report.specs.Printed.{Prints}
+use Rattle.obs_report.specs.inner.Printed.{Prints}
 use Rattle.obs_report.proofs.LineLemmas.{words_text}
 use Rattle.obs_report.proofs.line_buffer.LineBuffer.line.Given as goal
 

@@ -1,5 +1,5 @@
 use Rattle.std.proofs.Common.{inl, inr, length, ◌≡◌, ◌∙◌, [], ap, take, arith}
-use Rattle.obs_report.specs.Printed.{Buffered}
+use Rattle.obs_report.specs.inner.Printed.{Buffered}
 use Rattle.obs_report.proofs.Printing.{failed_printed, passed_printed, stored_printed}
 use Rattle.obs_report.proofs.line_buffer.LineBuffer.store_or_send.Goals as goal
 

@@ -1,7 +1,7 @@
 use Rattle.std.proofs.Common.{◌≡◌, ◌+◌, ◌<◌, ◌≤◌, false, eqb, ◌∷◌, ◌++◌, [], length, take, set, ap, ◌∙◌, arith}
 use Rattle.std.proofs.lemmas.Bool.{ne_eqb}
 use Rattle.std.proofs.lemmas.List.{length-take-le, take_more_set}
-use Rattle.obs_script.specs.Gathered.{Holds, most_held}
+use Rattle.obs_script.specs.inner.Gathered.{Holds, most_held}
 use Rattle.obs_script.proofs.HeldLemmas.{held_grows, held_stays}
 use Rattle.obs_script.proofs.gather.Gather.feed.Goals as goal
 

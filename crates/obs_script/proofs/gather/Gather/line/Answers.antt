@@ -1,6 +1,7 @@
 use Rattle.std.proofs.Common.{◌≡◌, true, false, cond, leb, None, Some, length, sym, ap, ◌∙◌, arith}
 use Rattle.std.proofs.lemmas.Bool.{le-leb, lt-leb}
-use Rattle.obs_script.specs.Gathered.{content_of, line_of}
+use Rattle.obs_script.specs.Gathered.{content_of}
+use Rattle.obs_script.specs.inner.Gathered.{line_of}
 use Rattle.obs_script.proofs.HeldLemmas.{line_of-held}
 use Rattle.obs_script.proofs.gather.Gather.line.Goals as goal
 

@@ -1,5 +1,6 @@
 use Rattle.std.proofs.Common.{◌≡◌, ap, ◌∙◌}
-use Rattle.obs_script.specs.Gathered.{content_of, is_comment, is_passed}
+use Rattle.obs_script.specs.Gathered.{content_of, is_comment}
+use Rattle.obs_script.specs.inner.Gathered.{is_passed}
 use Rattle.obs_script.proofs.HeldLemmas.{is_comment-some, is_passed-held}
 use Rattle.obs_script.proofs.gather.Gather.passed.Goals as goal
 

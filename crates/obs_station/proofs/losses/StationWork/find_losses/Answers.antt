@@ -4,7 +4,8 @@ use Rattle.obs_switch.proofs.FirstNodes.{bus_count-le}
 use Rattle.obs_meter.specs.Held.{Meters}
 use Rattle.obs_network.specs.Network.{Rows}
 use Rattle.obs_network.proofs.OfCase.{length-case_meters}
-use Rattle.obs_station.specs.Stations.{StationWork, all_links, losses_of}
+use Rattle.obs_station.specs.Stations.{all_links, losses_of}
+use Rattle.obs_station.specs.inner.Stations.{StationWork}
 use Rattle.obs_station.proofs.Finding.{IsOf, few-of_case, found-of_case, list-of_case, ready-of_case}
 use Rattle.obs_station.proofs.losses.StationWork.find_losses.Given.{Over}
 use Rattle.obs_station.proofs.losses.StationWork.find_losses.Goals as goal

@@ -1,7 +1,7 @@
 use Rattle.std.proofs.Common.{sym, ap, ◌∙◌, subst}
 use Rattle.obs_case.specs.Tables.{Tables}
 use Rattle.obs_network.specs.Network.{rows_of}
-use Rattle.obs_kept.specs.Kept.{AreLongest}
+use Rattle.obs_kept.specs.inner.Kept.{AreLongest}
 use Rattle.obs_station.proofs.losses.StationWork.losses.Goals as goal
 
 pub find_losses-requires-clause-rows : goal.find_losses-requires-clause-rows

@@ -1,6 +1,6 @@
 use Rattle.std.proofs.Common.{◌≡◌, ◌++◌, length, take, drop, ap, ◌∙◌, arith}
 use Rattle.obs_graph.proofs.Stored.{written_back}
-use Rattle.obs_station.specs.Rounds.{Rounds}
+use Rattle.obs_station.specs.inner.Rounds.{Rounds}
 use Rattle.obs_station.proofs.rounds.Rounds.settle.Goals as goal
 
 pub returns-clause-known : goal.returns-clause-known

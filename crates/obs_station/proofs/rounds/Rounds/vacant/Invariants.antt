@@ -1,6 +1,6 @@
 use Rattle.std.proofs.Common.{◌≡◌, ℕ, ◌<◌, None, get_or}
 use Rattle.obs_exchange.specs.declared.Sources.TheVariants.{All}
-use Rattle.obs_exchange.specs.Closed.{IsSource}
+use Rattle.obs_exchange.specs.inner.Closed.{IsSource}
 use Rattle.obs_station.proofs.rounds.Rounds.vacant.Given as goal
 
 abbrev pub invariant-loop-m : goal.invariant-loop-m

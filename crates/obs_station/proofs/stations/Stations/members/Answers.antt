@@ -1,8 +1,8 @@
 use Rattle.std.proofs.Common.{◌≡◌, ℕ, suc, List, length, take, sym, ap, subst, arith}
 use Rattle.std.proofs.lemmas.List.{length-take-le}
-use Rattle.obs_switch.specs.Groups.{AreGroups, group_start}
+use Rattle.obs_switch.specs.inner.Groups.{AreGroups, group_start}
 use Rattle.obs_switch.proofs.Grouping.{group_start-le}
-use Rattle.obs_station.specs.Held.{Stations}
+use Rattle.obs_station.specs.inner.Held.{Stations}
 use Rattle.obs_station.proofs.Ordering.{by_station}
 use Rattle.obs_station.proofs.stations.Stations.members.Goals as goal
 

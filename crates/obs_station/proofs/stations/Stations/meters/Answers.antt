@@ -2,7 +2,7 @@ use Rattle.std.proofs.Common.{◌≡◌, ℕ, ◌<◌, ◌≤◌, List, length, 
 use Rattle.std.specs.Prelude.{All}
 use Rattle.std.proofs.lemmas.List.{length-take-le}
 use Rattle.obs_switch.specs.Groups.{items_with}
-use Rattle.obs_station.specs.Held.{Stations}
+use Rattle.obs_station.specs.inner.Held.{Stations}
 use Rattle.obs_station.proofs.Summed.{items-few, items-low}
 use Rattle.obs_station.proofs.stations.Stations.meters.Goals as goal
 use Rattle.obs_station.proofs.stations.Stations.meters.Goals.{After-group_of}

@@ -3,10 +3,11 @@ use Rattle.std.proofs.lemmas.List.{take_all}
 use Rattle.obs_graph.proofs.Stored.{written_back}
 use Rattle.obs_case.specs.Tables.{Tables}
 use Rattle.obs_switch.specs.declared.link.Link.{Link}
-use Rattle.obs_switch.specs.Buses.{LinksBelow, bus_count, buses_of}
-use Rattle.obs_switch.specs.Groups.{AreGroups}
+use Rattle.obs_switch.specs.Buses.{bus_count, buses_of}
+use Rattle.obs_switch.specs.inner.Buses.{LinksBelow}
+use Rattle.obs_switch.specs.inner.Groups.{AreGroups}
 use Rattle.obs_switch.proofs.FirstNodes.{bus_count-le}
-use Rattle.obs_station.specs.Held.{Stations}
+use Rattle.obs_station.specs.inner.Held.{Stations}
 use Rattle.obs_station.specs.Stations.{all_links, case_station_count, case_stations}
 use Rattle.obs_station.proofs.Grouped.{keys-are}
 use Rattle.obs_station.proofs.Stationed.{links-below}

@@ -1,5 +1,6 @@
 use Rattle.std.proofs.Common.{◌≡◌, ◌∷◌, ◌≢◌, length, arith}
-use Rattle.obs_text.specs.Lines.{after_line, lines_of}
+use Rattle.obs_text.specs.Lines.{lines_of}
+use Rattle.obs_text.specs.inner.Lines.{after_line}
 use Rattle.obs_text.proofs.LineLemmas.{lines_of-step, fewer_lines}
 use Rattle.obs_text.proofs.line_iter.LinesIterator.next.Goals as goal
 

@@ -1,0 +1,4 @@
+-- What no claim rests on: invariants, records of loops, and what only inner contracts cite.
+pub mod Buses
+pub mod Rows
+pub mod Search

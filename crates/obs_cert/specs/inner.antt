@@ -1,0 +1,21 @@
+-- What no claim rests on: invariants, records of loops, and what only inner contracts cite.
+pub mod Certificate
+pub mod Contractions
+pub mod Faults
+pub mod Forms
+pub mod Given
+pub mod Hubs
+pub mod InScope
+pub mod Joins
+pub mod Keys
+pub mod Laws
+pub mod Links
+pub mod Marks
+pub mod Places
+pub mod Read
+pub mod Ready
+pub mod Said
+pub mod Scopes
+pub mod Seen
+pub mod Stars
+pub mod Walked

@@ -1,0 +1,2 @@
+-- What no claim rests on: invariants, records of loops, and what only inner contracts cite.
+pub mod Listed

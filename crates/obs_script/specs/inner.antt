@@ -1,0 +1,5 @@
+-- What no claim rests on: invariants, records of loops, and what only inner contracts cite.
+pub mod Commands
+pub mod Faults
+pub mod Gathered
+pub mod Laws
