@@ -46,7 +46,7 @@ IsBeginning limits words contents lengths room None after number bytes =
     ⊎ (IsOpened limits words contents lengths after number bytes ⊎ IsTurnedAway limits words contents lengths room after number bytes)
 
 -- a line was done: the session behind it has the case behind the line, and the line's reply is given
-pub record IsDone (line : List ℕ) (room : ℕ) (s : Session) (after : Option Session) (number : ℕ) (bytes : List ℕ) : Type 0 where
+pub record IsLineDone (line : List ℕ) (room : ℕ) (s : Session) (after : Option Session) (number : ℕ) (bytes : List ℕ) : Type 0 where
   pub session : Session
   pub stays : after ≡ Some session
   pub offered : session.offered ≡ s.offered
@@ -56,4 +56,4 @@ pub record IsDone (line : List ℕ) (room : ℕ) (s : Session) (after : Option S
 -- what one line does: nothing where there is no session, and nothing for want of memory
 abbrev pub IsLineAnswered : List ℕ → ℕ → Option Session → Option Session → ℕ → List ℕ → Type 0
 IsLineAnswered line room None after number bytes = IsLeft None after number bytes out_of_turn
-IsLineAnswered line room (Some s) after number bytes = IsLeft (Some s) after number bytes (code_of NoMemory) ⊎ IsDone line room s after number bytes
+IsLineAnswered line room (Some s) after number bytes = IsLeft (Some s) after number bytes (code_of NoMemory) ⊎ IsLineDone line room s after number bytes

@@ -5,11 +5,11 @@ ghost use Rattle.obs_c.specs.Blocks.{IsCall, malformed, words_in};
 ghost use Rattle.obs_c.specs.Calls.{IsAnswered, limits_for, told_by};
 ghost use Rattle.obs_files.specs.Limits.{usual_limits};
 
+use crate::block_words::{WordsFault, words_of};
 use crate::deliver::deliver;
 use crate::front::Front;
 use crate::lengths::are_lengths;
 use crate::limits::limits_for;
-use crate::words::{WordsFault, words_of};
 use obs_engine::{Status, run_within};
 use obs_io::{BlockFiles, BlockSource};
 use std::alloc::Global;

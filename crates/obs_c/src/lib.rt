@@ -2,6 +2,7 @@
 //! calls.
 #![tactic(auto)]
 
+mod block_words;
 mod call;
 mod deliver;
 mod front;
@@ -13,7 +14,6 @@ mod loose;
 mod slot;
 mod stay;
 mod version;
-mod words;
 
 pub use call::{obs_run, obs_run_within};
 pub use handle::Handle;

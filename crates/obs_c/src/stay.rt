@@ -4,12 +4,12 @@ ghost use Rattle.obs_c.specs.Calls.{limits_for};
 ghost use Rattle.obs_c.specs.Stays.{IsLineAnswered, IsBeginning};
 ghost use Rattle.obs_files.specs.Limits.{usual_limits};
 
+use crate::block_words::{WordsFault, words_of};
 use crate::deliver::deliver;
 use crate::front::Front;
 use crate::lengths::are_lengths;
 use crate::limits::limits_for;
 use crate::slot::Slot;
-use crate::words::{WordsFault, words_of};
 use obs_engine::{Status, answer_one, begin_session_within};
 use obs_io::BlockFiles;
 use std::alloc::Global;

@@ -12,8 +12,8 @@ use Rattle.obs_cert.specs.Claims.{BoundClaim, CostClaim, Layer, ShortfallClaim, 
 use Rattle.obs_cert.specs.Flaws.{Listed, bound_clauses, bound_flaw, cost_flaw, costs_clauses, first_true, forest_clauses, layers_clauses, list_clauses, listed_layers, not_below, not_inside, not_touched, outside_of, paired_twice, rank_of_items, runs_on, shortfall_flaw, shows, tree_flaw, twice, unknown_item, unknown_pair, wrong_rank, wrong_outside}
 use Rattle.obs_cert.specs.inner.Hubs.{Hubs}
 use Rattle.obs_cert.specs.inner.Marks.{AreBelow}
-use Rattle.obs_cert.specs.Numbered.{chosen_items, items_of, paired_items, pairs_of}
-use Rattle.obs_cert.specs.inner.Ready.{HasRoom, IsReady}
+use Rattle.obs_cert.specs.Numbered.{candidate_items, items_of, paired_items, pairs_of}
+use Rattle.obs_cert.specs.inner.Ready.{HasRoomForRows, IsReadyFor}
 use Rattle.obs_cert.specs.inner.Joins.{AreFree, AreJoined}
 use Rattle.obs_cert.specs.inner.Stars.{AreStarRanks}
 use Rattle.std.proofs.lemmas.List.{length-map, with_items_is}
@@ -31,10 +31,10 @@ pub more_below : (stamp : ℕ) (marks : List ℕ) → AreBelow stamp marks → A
 more_below stamp marks b x = let l = b x in omega (arith, l)
 
 -- after marks of the stamp were made
-pub ready_more : (t : Tables) (stamp : ℕ) (w w2 : Work) → IsReady t stamp w
+pub ready_more : (t : Tables) (stamp : ℕ) (w w2 : Work) → IsReadyFor t stamp w
     → length w2.chosen.items ≡ length w.chosen.items → length w2.paired.items ≡ length w.paired.items → length w2.listed.items ≡ length w.listed.items → length w2.taken.items ≡ length w.taken.items
     → w2.ups.items ≡ w.ups.items → w2.moved.items ≡ w.moved.items → w2.stars.items ≡ w.stars.items → w2.hubs ≡ w.hubs → w2.links.items ≡ w.links.items
-    → AreBelow (suc stamp) w2.chosen.items → AreBelow (suc stamp) w2.paired.items → AreBelow (suc stamp) w2.listed.items → AreBelow (suc stamp) w2.taken.items → IsReady t (suc stamp) w2
+    → AreBelow (suc stamp) w2.chosen.items → AreBelow (suc stamp) w2.paired.items → AreBelow (suc stamp) w2.listed.items → AreBelow (suc stamp) w2.taken.items → IsReadyFor t (suc stamp) w2
 ready_more t stamp w w2 r e1 e2 e3 e4 e5 e6 e7 e8 e9 b1 b2 b3 b4 =
     let m = r.room in
     record {
@@ -126,17 +126,17 @@ back v ws e = with_items_is v ws (omega (arith, e, v.ok.0))
 
 -- after marks were made in some of the arrays
 -- where a claim ends before it marks anything
-pub ready_later : (t : Tables) (stamp : ℕ) (w : Work) → IsReady t stamp w → IsReady t (suc stamp) w
+pub ready_later : (t : Tables) (stamp : ℕ) (w : Work) → IsReadyFor t stamp w → IsReadyFor t (suc stamp) w
 ready_later t stamp w r =
     ready_more t stamp w w r refl refl refl refl refl refl refl refl refl (more_below stamp w.chosen.items r.chosen) (more_below stamp w.paired.items r.paired) (more_below stamp w.listed.items r.listed) (more_below stamp w.taken.items r.taken)
 
 -- the ways up are free
-pub free_of : (rows : Rows) (w : Work) → HasRoom rows w → AreJoined [] w.ups.items [] → AreFree (2 * rows.nodes) w.ups.items w.moved.items
+pub free_of : (rows : Rows) (w : Work) → HasRoomForRows rows w → AreJoined [] w.ups.items [] → AreFree (2 * rows.nodes) w.ups.items w.moved.items
 free_of rows w m clear = record { vertices = m.ups; few = m.few; room = m.moved; clear = clear }
 
 -- after branches were joined and parted again
-pub room_joined : (rows : Rows) (w : Work) (ups moved : List ℕ) → HasRoom rows w → length ups ≡ length w.ups.items → length moved ≡ length w.moved.items
-    → HasRoom rows (record w { ups = with_items w.ups ups; moved = with_items w.moved moved })
+pub room_joined : (rows : Rows) (w : Work) (ups moved : List ℕ) → HasRoomForRows rows w → length ups ≡ length w.ups.items → length moved ≡ length w.moved.items
+    → HasRoomForRows rows (record w { ups = with_items w.ups ups; moved = with_items w.moved moved })
 room_joined rows w ups moved m e f =
     let p = ap length (back w.ups ups e) ∙ e in
     let k = ap length (back w.moved moved f) ∙ f in
@@ -156,8 +156,8 @@ room_joined rows w ups moved m e f =
 pub clear_joined : (w : Work) (ups : List ℕ) → length ups ≡ length w.ups.items → AreJoined [] ups [] → AreJoined [] (with_items w.ups ups).items []
 clear_joined w ups e clear = subst (λ us. AreJoined [] us []) (sym (back w.ups ups e)) clear
 
-pub ready_joined : (t : Tables) (stamp : ℕ) (w : Work) (ups moved : List ℕ) → IsReady t stamp w → length ups ≡ length w.ups.items → length moved ≡ length w.moved.items
-    → AreJoined [] ups [] → IsReady t stamp (record w { ups = with_items w.ups ups; moved = with_items w.moved moved })
+pub ready_joined : (t : Tables) (stamp : ℕ) (w : Work) (ups moved : List ℕ) → IsReadyFor t stamp w → length ups ≡ length w.ups.items → length moved ≡ length w.moved.items
+    → AreJoined [] ups [] → IsReadyFor t stamp (record w { ups = with_items w.ups ups; moved = with_items w.moved moved })
 ready_joined t stamp w ups moved r e f clear = record {
   room = room_joined (rows_of t) w ups moved r.room e f;
   chosen = r.chosen;
@@ -170,7 +170,7 @@ ready_joined t stamp w ups moved r e f clear = record {
 }
 
 -- and rows at vertices were listed
-pub ready_hubs : (t : Tables) (stamp : ℕ) (w : Work) (hubs : Hubs) → IsReady t stamp w → hubs.room ≡ w.hubs.room → IsReady t stamp (record w { hubs = hubs })
+pub ready_hubs : (t : Tables) (stamp : ℕ) (w : Work) (hubs : Hubs) → IsReadyFor t stamp w → hubs.room ≡ w.hubs.room → IsReadyFor t stamp (record w { hubs = hubs })
 ready_hubs t stamp w hubs r e =
     let m = r.room in
     record {
@@ -196,8 +196,8 @@ ready_hubs t stamp w hubs r e =
     }
 
 -- and ranks were kept
-pub ready_measured : (t : Tables) (stamp : ℕ) (w : Work) (hubs : Hubs) (stars ups moved : List ℕ) → IsReady t stamp w → hubs.room ≡ w.hubs.room → length stars ≡ length w.stars.items → length ups ≡ length w.ups.items → length moved ≡ length w.moved.items
-    → AreJoined [] ups [] → AreStarRanks t stars → IsReady t stamp (record w { hubs = hubs; stars = with_items w.stars stars; ups = with_items w.ups ups; moved = with_items w.moved moved })
+pub ready_measured : (t : Tables) (stamp : ℕ) (w : Work) (hubs : Hubs) (stars ups moved : List ℕ) → IsReadyFor t stamp w → hubs.room ≡ w.hubs.room → length stars ≡ length w.stars.items → length ups ≡ length w.ups.items → length moved ≡ length w.moved.items
+    → AreJoined [] ups [] → AreStarRanks t stars → IsReadyFor t stamp (record w { hubs = hubs; stars = with_items w.stars stars; ups = with_items w.ups ups; moved = with_items w.moved moved })
 ready_measured t stamp w hubs stars ups moved r d g e f clear known =
     let m = r.room in
     let s = back w.stars stars g in
@@ -226,31 +226,31 @@ ready_measured t stamp w hubs stars ups moved r d g e f clear known =
       links = r.links;
     }
 
-pub ready_pairs : (t : Tables) (stamp : ℕ) (w : Work) (paired taken : List ℕ) → IsReady t stamp w → length paired ≡ length w.paired.items → length taken ≡ length w.taken.items
-    → AreBelow (suc stamp) paired → AreBelow (suc stamp) taken → IsReady t (suc stamp) (record w { paired = with_items w.paired paired; taken = with_items w.taken taken })
+pub ready_pairs : (t : Tables) (stamp : ℕ) (w : Work) (paired taken : List ℕ) → IsReadyFor t stamp w → length paired ≡ length w.paired.items → length taken ≡ length w.taken.items
+    → AreBelow (suc stamp) paired → AreBelow (suc stamp) taken → IsReadyFor t (suc stamp) (record w { paired = with_items w.paired paired; taken = with_items w.taken taken })
 ready_pairs t stamp w paired taken r e f a b =
     let p = back w.paired paired e in
     let k = back w.taken taken f in
     ready_more t stamp w (record w { paired = with_items w.paired paired; taken = with_items w.taken taken }) r refl (ap length p ∙ e) refl (ap length k ∙ f) refl refl refl refl refl
     (more_below stamp w.chosen.items r.chosen) (subst (AreBelow (suc stamp)) (sym p) a) (more_below stamp w.listed.items r.listed) (subst (AreBelow (suc stamp)) (sym k) b)
 
-pub ready_chosen : (t : Tables) (stamp : ℕ) (w : Work) (chosen : List ℕ) → IsReady t stamp w → length chosen ≡ length w.chosen.items
-    → AreBelow (suc stamp) chosen → IsReady t (suc stamp) (record w { chosen = with_items w.chosen chosen })
+pub ready_chosen : (t : Tables) (stamp : ℕ) (w : Work) (chosen : List ℕ) → IsReadyFor t stamp w → length chosen ≡ length w.chosen.items
+    → AreBelow (suc stamp) chosen → IsReadyFor t (suc stamp) (record w { chosen = with_items w.chosen chosen })
 ready_chosen t stamp w chosen r e a =
     let p = back w.chosen chosen e in
     ready_more t stamp w (record w { chosen = with_items w.chosen chosen }) r (ap length p ∙ e) refl refl refl refl refl refl refl refl
     (subst (AreBelow (suc stamp)) (sym p) a) (more_below stamp w.paired.items r.paired) (more_below stamp w.listed.items r.listed) (more_below stamp w.taken.items r.taken)
 
-pub ready_listed : (t : Tables) (stamp : ℕ) (w : Work) (listed : List ℕ) → IsReady t stamp w → length listed ≡ length w.listed.items
-    → AreBelow (suc stamp) listed → IsReady t (suc stamp) (record w { listed = with_items w.listed listed })
+pub ready_listed : (t : Tables) (stamp : ℕ) (w : Work) (listed : List ℕ) → IsReadyFor t stamp w → length listed ≡ length w.listed.items
+    → AreBelow (suc stamp) listed → IsReadyFor t (suc stamp) (record w { listed = with_items w.listed listed })
 ready_listed t stamp w listed r e a =
     let p = back w.listed listed e in
     ready_more t stamp w (record w { listed = with_items w.listed listed }) r refl refl (ap length p ∙ e) refl refl refl refl refl refl
     (more_below stamp w.chosen.items r.chosen) (more_below stamp w.paired.items r.paired) (subst (AreBelow (suc stamp)) (sym p) a) (more_below stamp w.taken.items r.taken)
 
-pub ready_plan : (t : Tables) (stamp : ℕ) (w : Work) (chosen paired listed taken : List ℕ) → IsReady t stamp w → length chosen ≡ length w.chosen.items → length paired ≡ length w.paired.items → length listed ≡ length w.listed.items → length taken ≡ length w.taken.items
+pub ready_plan : (t : Tables) (stamp : ℕ) (w : Work) (chosen paired listed taken : List ℕ) → IsReadyFor t stamp w → length chosen ≡ length w.chosen.items → length paired ≡ length w.paired.items → length listed ≡ length w.listed.items → length taken ≡ length w.taken.items
     → AreBelow (suc stamp) chosen → AreBelow (suc stamp) paired → AreBelow (suc stamp) listed → AreBelow (suc stamp) taken
-    → IsReady t (suc stamp) (record w { chosen = with_items w.chosen chosen; paired = with_items w.paired paired; listed = with_items w.listed listed; taken = with_items w.taken taken })
+    → IsReadyFor t (suc stamp) (record w { chosen = with_items w.chosen chosen; paired = with_items w.paired paired; listed = with_items w.listed listed; taken = with_items w.taken taken })
 ready_plan t stamp w chosen paired listed taken r e f g h a b c d =
     let p = back w.chosen chosen e in
     let q = back w.paired paired f in
@@ -262,10 +262,10 @@ ready_plan t stamp w chosen paired listed taken r e f g h a b c d =
 
 -- no clause on the cost is false
 pub costs_right : (t : Tables) (c : CostClaim) (chosen shown : ℕ) → list_any (λ (l : Layer). not_below l.rank l.outside (case_needed t)) c.layers ≡ false → runs_on 0 c.layers ≡ true
-    → sum_by (price_at t) (items_of t (chosen_items c.chosen)) ≡ c.number → sum_by (shows (case_needed t)) c.layers ≡ c.number
+    → sum_by (price_at t) (items_of t (candidate_items c.chosen)) ≡ c.number → sum_by (shows (case_needed t)) c.layers ≡ c.number
     → None ≡ first_true (costs_clauses t c)
 costs_right t c chosen shown n r a b =
-    rw (n, r, eq-eqb (sum_by (price_at t) (items_of t (chosen_items c.chosen))) c.number a, eq-eqb (sum_by (shows (case_needed t)) c.layers) c.number b) refl
+    rw (n, r, eq-eqb (sum_by (price_at t) (items_of t (candidate_items c.chosen))) c.number a, eq-eqb (sum_by (shows (case_needed t)) c.layers) c.number b) refl
 
 -- a number that isn't too great to be counted
 pub counted_right : (sum number : ℕ) → min sum (2 ^ 128 - 1) ≡ number → number < 2 ^ 64 → sum ≡ number
@@ -330,5 +330,5 @@ three_same a x b y c z e f g = ap (λ (k : Bool). k || (b || c)) e ∙ ap (λ (k
 
 pub plan_layers : (t : Tables) (c : CostClaim) → outside_of_plan t c ≡ false → list_any (λ (l : Listed). not_inside (is_below t l.layer.to) l.list) (listed_layers t c.layers) ≡ false
 plan_layers t c e =
-    (or_parts (not_inside (is_of_plan t (is_listed (items_of t (chosen_items c.chosen)))) (items_of t (paired_items c.pairs)))
+    (or_parts (not_inside (is_of_plan t (is_listed (items_of t (candidate_items c.chosen)))) (items_of t (paired_items c.pairs)))
     (list_any (λ (l : Listed). not_inside (is_below t l.layer.to) l.list) (listed_layers t c.layers)) e).1

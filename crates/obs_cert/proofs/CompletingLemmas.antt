@@ -21,15 +21,16 @@ use Rattle.obs_meter.proofs.Live.{In-live, live-from_live_items}
 use Rattle.obs_network.specs.Network.{case_branches, case_needed, case_offered, case_vertex_count, is_meter}
 use Rattle.obs_network.proofs.Observed.{most_pairs}
 use Rattle.obs_network.proofs.OfCase.{case_branches-are}
-use Rattle.obs_rankcut.specs.Costs.{live_candidates, live_meters, price_of}
+use Rattle.obs_meter.specs.Costs.{live_candidates, live_meters, price_of}
 use Rattle.obs_rankcut.proofs.Costs.{layers_bound_completing}
 use Rattle.obs_cert.specs.declared.flaw.FlawCode.TheVariants.{Cycle, NotBelow, NotInside, NotTouched, Twice, UnknownName, WrongCost, WrongLayers, WrongLength, WrongOutside, WrongRank}
 use Rattle.obs_cert.specs.Claims.{Item, Layer, candidate}
-use Rattle.obs_cert.specs.Completing.{ChosenAreCheapest, CompletesCase, ShortfallsRefute, chosen_by, price_together}
+use Rattle.obs_network.specs.Completing.{CompletesCase, price_together}
+use Rattle.obs_cert.specs.Completing.{ChosenAreCheapest, ShortfallsRefute, chosen_by}
 use Rattle.obs_cert.specs.Flaws.{Listed, all_inside, cycle, first_true, layers_clauses, list_clauses, listed_from, listed_layers, not_below, not_inside, not_touched, outside_of, outside_of_plan, paired_twice, rank_of_items, runs_on, shows, twice, twice_in_plan, unknown_in_plan, unknown_item, unknown_pair, wrong_cost, wrong_length, wrong_outside, wrong_rank}
-use Rattle.obs_cert.specs.Numbered.{chosen_items, is_known, item_of, items_of, paired_items, pairs_of}
+use Rattle.obs_cert.specs.Numbered.{candidate_items, is_known, item_of, items_of, paired_items, pairs_of}
 use Rattle.obs_meter.specs.Lost.{is_listed}
-use Rattle.obs_cert.specs.Scopes.{is_below, is_live_item, is_of_plan, price_at, scope_of, touches_of}
+use Rattle.obs_cert.specs.Scopes.{is_below, is_live_item, is_of_plan, item_touches, price_at, scope_of}
 use Rattle.obs_cert.proofs.CountingLemmas.{distinct, each_passes}
 use Rattle.obs_cert.proofs.OutsideLemmas.{scope_distinct}
 use Rattle.obs_meter.proofs.Touched.{In-from_any, any-from_In}
@@ -153,14 +154,14 @@ module _ (t : Tables) (v : IsValid t) where
   g = graph_matroid (case_vertex_count t) (case_branches t)
 
   -- and the listed ones touch as much, where none is listed from elsewhere
-  rank_same : (to : ℕ) (list : List ℕ) → not_inside (is_below t to) list ≡ false → g.rank (flat_map (touches_of t) (filter (is_listed list) (parts t to))) ≡ rank_of_items t list
+  rank_same : (to : ℕ) (list : List ℕ) → not_inside (is_below t to) list ≡ false → g.rank (flat_map (item_touches t) (filter (is_listed list) (parts t to))) ≡ rank_of_items t list
   rank_same to list inside =
       let up = rank_within t v (parts t to) list in
-      let down = rank-within g (laws t v) (flat_map (touches_of t) list) (flat_map (touches_of t) (filter (is_listed list) (parts t to)))
+      let down = rank-within g (laws t v) (flat_map (item_touches t) list) (flat_map (item_touches t) (filter (is_listed list) (parts t to)))
       (λ e i.
-      let w = In-flat_map_from (touches_of t) e list i in
+      let w = In-flat_map_from (item_touches t) e list i in
       let there = In-filter (is_listed list) w.0 (parts t to) (in_parts t to w.0 (each_passes (is_below t to) list inside w.0 w.1)) (any-from_In list w.0 w.1) in
-      (laws t v).member (flat_map (touches_of t) (filter (is_listed list) (parts t to))) e (In-flat_map (touches_of t) w.0 e (filter (is_listed list) (parts t to)) there w.2)) in
+      (laws t v).member (flat_map (item_touches t) (filter (is_listed list) (parts t to))) e (In-flat_map (item_touches t) w.0 e (filter (is_listed list) (parts t to)) there w.2)) in
       omega (arith, up, down)
 
   shown : (layer : Layer) (list : List ℕ) → not_inside (is_below t layer.to) list ≡ false → wrong_rank t list layer.rank ≡ false → wrong_outside t (is_below t layer.to) list layer.outside ≡ false
@@ -172,12 +173,12 @@ module _ (t : Tables) (v : IsValid t) where
   }
 
   -- a chosen candidate is one of the case
-  chosen_each : (names : List (List ℕ)) → unknown_item t (chosen_items names) ≡ false → (m : ℕ) → In m (items_of t (chosen_items names)) → (length t.meters ≤ m) × (m < length t.meters + length t.candidates)
+  chosen_each : (names : List (List ℕ)) → unknown_item t (candidate_items names) ≡ false → (m : ℕ) → In m (items_of t (candidate_items names)) → (length t.meters ≤ m) × (m < length t.meters + length t.candidates)
   chosen_each names known m i =
-      let a = In-map_from (item_of t) m (chosen_items names) i in
+      let a = In-map_from (item_of t) m (candidate_items names) i in
       let b = In-map_from candidate a.0 names a.1 in
       let name = b.0 in
-      let there : has_name (candidate_names t) name ≡ true = subst (λ (x : Item). is_known t x ≡ true) b.2 (each_passes (is_known t) (chosen_items names) known a.0 a.1) in
+      let there : has_name (candidate_names t) name ≡ true = subst (λ (x : Item). is_known t x ≡ true) b.2 (each_passes (is_known t) (candidate_items names) known a.0 a.1) in
       let low = place-there (bytes_eq name) (candidate_names t) there in
       let e : m ≡ length t.meters + place_of (candidate_names t) name = a.2 ∙ ap (item_of t) b.2 in
       (omega (arith, e), omega (arith, e, low, length-map t.candidates (λ row. row.name)))
@@ -199,7 +200,7 @@ chosen_are_cheapest t c v h =
     let below = none_true (list_any (λ (l : Layer). not_below l.rank l.outside (case_needed t)) c.layers) NotBelow _ outside.1 in
     let runs = none_true (not (runs_on 0 c.layers)) WrongLayers _ below.1 in
     let costs = none_true (wrong_cost t X c.layers c.number) WrongCost None runs.1 in
-    let names = or_parts (unknown_item t (chosen_items c.chosen)) (unknown_pair t c.pairs || unknown_item t (all_inside c.layers)) known.0 in
+    let names = or_parts (unknown_item t (candidate_items c.chosen)) (unknown_pair t c.pairs || unknown_item t (all_inside c.layers)) known.0 in
     let lists = or_parts (not_inside (is_of_plan t (is_listed X)) paired) (list_any (λ (l : Listed). not_inside (is_below t l.layer.to) l.list) listed) inside.0 in
     let two = or_parts (twice X) (paired_twice t c.pairs || twice (items_of t (all_inside c.layers))) once.0 in
     let pairs = or_parts (paired_twice t c.pairs) (twice (items_of t (all_inside c.layers))) two.1 in

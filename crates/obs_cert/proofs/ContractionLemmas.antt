@@ -30,7 +30,7 @@ use Rattle.obs_cert.specs.inner.Contractions.{FitsIn, IsContracted, IsContractio
 use Rattle.obs_cert.specs.Flaws.{rank_of_items}
 use Rattle.obs_cert.specs.inner.Hubs.{AreHubs, AreSpanned}
 use Rattle.obs_cert.specs.inner.Links.{AreLinks, link, link_of, links_of}
-use Rattle.obs_cert.specs.Scopes.{touches_of}
+use Rattle.obs_cert.specs.Scopes.{item_touches}
 use Rattle.obs_cert.specs.inner.Stars.{star_rank}
 use Rattle.obs_cert.proofs.LinkLemmas.{link_back, link_zero, linked_as, listed_same, row_from, row_listed}
 
@@ -197,17 +197,17 @@ module _ (t : Tables) (valid : IsValid t) (v : ℕ) (low : v < case_vertex_count
   }
 
   -- the rank of the branches that the items of a list touch, where one of them touches these rows
-  pub rank_contracted : (list : List ℕ) (m : ℕ) → In m list → touches_of t m ≡ branches_at (case_rows t) v
-      → star_rank t v + rank n (ends_of (renamed_ends (becomes v links) (case_branches t)) (flat_map (touches_of t) list)) ≡ rank_of_items t list
+  pub rank_contracted : (list : List ℕ) (m : ℕ) → In m list → item_touches t m ≡ branches_at (case_rows t) v
+      → star_rank t v + rank n (ends_of (renamed_ends (becomes v links) (case_branches t)) (flat_map (item_touches t) list)) ≡ rank_of_items t list
   rank_contracted list m inside touches =
       let ends = case_branches t in
-      let ps = flat_map (touches_of t) list in
+      let ps = flat_map (item_touches t) list in
       let all = ends_of ends ps in
       let by = rank-merged_by n n star (becomes v links) star_merges all (range_of n ends ps (branches_below n ends (case_branches-are t valid))) in
       let new : rank n (ends_of (renamed_ends (becomes v links) ends) ps) ≡ rank n (renamed (becomes v links) all) = ap (rank n) (ends_of_renamed (becomes v links) ends ps) in
       let among : (e : Ends) → Contains star e → Contains all e = λ e has.
       let w = ends_of-contains ends (branches_at (case_rows t) v) e has in
-      let there : In w.0 ps = In-flat_map (touches_of t) m w.0 list inside (subst (λ (qs : List ℕ). In w.0 qs) (sym touches) (In-from_Contains w.0 (branches_at (case_rows t) v) w.1)) in
+      let there : In w.0 ps = In-flat_map (item_touches t) m w.0 list inside (subst (λ (qs : List ℕ). In w.0 qs) (sym touches) (In-from_Contains w.0 (branches_at (case_rows t) v) w.1)) in
       contains-ends_of ends ps w.0 e (Contains-from_In w.0 ps there) w.2 in
       let up = rank-among n (star ++ all) all (λ e has. elim (Contains-append_cases star all e has) [ inl k ↦ among e k | inr k ↦ k ]) in
       let down = rank-among n all (star ++ all) (λ e has. Contains-append_right star all e has) in

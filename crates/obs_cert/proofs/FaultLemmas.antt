@@ -12,7 +12,7 @@ use Rattle.obs_cert.specs.inner.Certificate.{IsFirstFault, IsFront, IsWhole, IsW
 use Rattle.obs_cert.specs.inner.Laws.{FirstFaultIsMet}
 use Rattle.obs_cert.specs.Places.{formed, in_place, is_over, place_after, step}
 use Rattle.obs_cert.specs.Read.{claims_in, onto_lines, read_from, then_read}
-use Rattle.obs_cert.specs.Words.{Line, end_line, line_of}
+use Rattle.obs_cert.specs.Words.{Line, claim_line, end_line}
 use Rattle.obs_cert.proofs.LawLemmas.{step-ok}
 use Rattle.obs_cert.proofs.OrderLemmas.{InOrder, OnSome, claims_in_order, parts_in_order}
 use Rattle.obs_matroid.proofs.Lists.{clash}
@@ -74,12 +74,12 @@ module _ (front : List Line) (place : Place) (reached : Reached front place) whe
       let here = reached.from (line ∷ begins.1) order in
       subst (λ o. OnSome o (λ n. InOrder n begins.1)) is here.1
 
-  out_of_place : (bytes : List ℕ) (line : Line) (o : Option Place) (code : CertCode) → is_over place ≡ false → line_of bytes ≡ Some line → place_after place line ≡ o → in_place line o ≡ Err code → IsWrong code front bytes
+  out_of_place : (bytes : List ℕ) (line : Line) (o : Option Place) (code : CertCode) → is_over place ≡ false → claim_line bytes ≡ Some line → place_after place line ≡ o → in_place line o ≡ Err code → IsWrong code front bytes
   out_of_place bytes line (Some next) code going form is wrong = cc
   out_of_place bytes line None code going form is wrong =
       let e : OutOfPlace ≡ code = same_code OutOfPlace code (in_place line None) refl wrong in subst (λ c. IsWrong c front bytes) e (not_whole going, line, form, not_front line is)
 
-  badly_formed : (bytes : List ℕ) (o : Option Line) (code : CertCode) → is_over place ≡ false → line_of bytes ≡ o → formed place o ≡ Err code → IsWrong code front bytes
+  badly_formed : (bytes : List ℕ) (o : Option Line) (code : CertCode) → is_over place ≡ false → claim_line bytes ≡ o → formed place o ≡ Err code → IsWrong code front bytes
   badly_formed bytes None code going form wrong = let e : BadLine ≡ code = same_code BadLine code (formed place None) refl wrong in subst (λ c. IsWrong c front bytes) e (not_whole going, form)
   badly_formed bytes (Some line) code going form wrong = out_of_place bytes line (place_after place line) code going form refl wrong
 
@@ -89,14 +89,14 @@ module _ (front : List Line) (place : Place) (reached : Reached front place) whe
         | inl over ↦
             let e : AfterEnd ≡ code = same_code AfterEnd code (Err AfterEnd) refl (rw over at is) in
             subst (λ c. IsWrong c front bytes) e (front_over over)
-        | inr going ↦ badly_formed bytes (line_of bytes) code going refl (rw going at is)
+        | inr going ↦ badly_formed bytes (claim_line bytes) code going refl (rw going at is)
       ]
 
 onto_lines-err : (line : Line) (r : Result (List Line) CertFault) (fault : CertFault) → onto_lines line r ≡ Err fault → r ≡ Err fault
 onto_lines-err line (Ok rest) fault is = cc
 onto_lines-err line (Err other) fault is = is
 
-met : (rest : List (List ℕ)) (place : Place) (at : ℕ) (earlier : List (List ℕ)) (front : List Line) (fault : CertFault) → at ≡ length earlier + 1 → map line_of earlier ≡ map Some front → Reached front place
+met : (rest : List (List ℕ)) (place : Place) (at : ℕ) (earlier : List (List ℕ)) (front : List Line) (fault : CertFault) → at ≡ length earlier + 1 → map claim_line earlier ≡ map Some front → Reached front place
     → read_from place at rest ≡ Err fault → IsFirstFault (earlier ++ rest) fault
 met [] place at earlier front fault number forms reached is =
     elim (cases_Bool (is_over place)) [
@@ -104,7 +104,7 @@ met [] place at earlier front fault number forms reached is =
       | inr going ↦
           let e : fault_of 0 NoEnd ≡ fault = same_fault (fault_of 0 NoEnd) fault (Err (fault_of 0 NoEnd)) refl (rw going at is) in
           subst (IsFirstFault (earlier ++ [])) e
-          (inr (front, record { forms = ap (map line_of) (append-nil earlier) ∙ forms; begins = front_begins front place reached }, not_whole front place reached going, refl))
+          (inr (front, record { forms = ap (map claim_line) (append-nil earlier) ∙ forms; begins = front_begins front place reached }, not_whole front place reached going, refl))
     ]
 met (bytes ∷ rest) place at earlier front fault number forms reached is =
     by (step place bytes) refl is
@@ -113,7 +113,7 @@ met (bytes ∷ rest) place at earlier front fault number forms reached is =
     subst (λ lines. IsFirstFault lines fault) (append_assoc earlier (bytes ∷ []) rest)
     (met rest next (at + 1) (earlier ++ bytes ∷ []) (front ++ line ∷ []) fault
     (omega (arith, number, length-append earlier (bytes ∷ [])))
-    (map-append line_of earlier (bytes ∷ []) ∙ ap (λ r. r ++ line_of bytes ∷ []) forms ∙ ap (λ o. map Some front ++ o ∷ []) one.form ∙ sym (map-append (λ l. Some l) front (line ∷ [])))
+    (map-append claim_line earlier (bytes ∷ []) ∙ ap (λ r. r ++ claim_line bytes ∷ []) forms ∙ ap (λ o. map Some front ++ o ∷ []) one.form ∙ sym (map-append (λ l. Some l) front (line ∷ [])))
     (one_line front place next line reached one.going one.placed) h)
     ))
   where

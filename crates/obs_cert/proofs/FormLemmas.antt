@@ -13,7 +13,7 @@ use Rattle.obs_cert.specs.Claims.{Item, Pair, meter, candidate}
 use Rattle.obs_cert.specs.inner.Forms.{HasForm, Write, claimed_name, sort_word, with_tabs}
 use Rattle.obs_cert.specs.inner.Laws.{FormsArePlain, LinesHaveForms}
 use Rattle.obs_cert.specs.Words.{Line, tree_line, bound_line, cost_line, shortfall_line, pair_line, chosen_line, layer_line, inside_line, end_line}
-use Rattle.obs_cert.specs.Words.{bound_of, item_in, layer_of, line_of, line_of_words, name_in, of_five, of_four, of_one, of_three, of_two, pair_line_of, shortfall_of, words_of}
+use Rattle.obs_cert.specs.Words.{bound_of, claim_line, item_in, layer_of, line_of_words, name_in, of_five, of_four, of_one, of_three, of_two, pair_line_of, shortfall_of, words_of}
 use Rattle.obs_cert.proofs.WordLemmas.{with_tabs-words_of, words_of-with_tabs}
 
 -- one of two choices
@@ -273,7 +273,7 @@ FormsArePlain-holds (pair_line pair) words form =
 FormsArePlain-holds end_line words form = rw form refl
 
 -- and so bytes that are such words are their line
-of_words : (words : List (List ℕ)) (line : Line) → HasForm line words → line_of (with_tabs words) ≡ Some line
+of_words : (words : List (List ℕ)) (line : Line) → HasForm line words → claim_line (with_tabs words) ≡ Some line
 of_words [] line form = let none = line_of_form line [] form in cc
 of_words (word ∷ words) line form =
     ap line_of_words (words_of-with_tabs word words (FormsArePlain-holds line (word ∷ words) form)) ∙ line_of_form line (word ∷ words) form
@@ -281,5 +281,5 @@ of_words (word ∷ words) line form =
 pub LinesHaveForms-holds : LinesHaveForms
 LinesHaveForms-holds bytes line = (
   λ is. (words_of bytes, form_of_words (words_of bytes) line is, sym (with_tabs-words_of bytes)),
-  λ has. ap line_of has.2 ∙ of_words has.0 line has.1,
+  λ has. ap claim_line has.2 ∙ of_words has.0 line has.1,
 )

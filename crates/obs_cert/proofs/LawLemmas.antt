@@ -12,13 +12,13 @@ use Rattle.obs_cert.specs.Claims.{Claim}
 use Rattle.obs_cert.specs.inner.Laws.{CertificateIsRead, FaultWhereNoCertificate}
 use Rattle.obs_cert.specs.Places.{formed, in_place, is_over, place_after, step}
 use Rattle.obs_cert.specs.Read.{claims_in, claims_of, onto_lines, parts_of, read_from, then_read}
-use Rattle.obs_cert.specs.Words.{Line, line_of}
+use Rattle.obs_cert.specs.Words.{Line, claim_line}
 use Rattle.obs_cert.proofs.OrderLemmas.{InOrder, OnSome, are_claims, claims_in_order, parts_in_order}
 
 -- a line that is read at a place has a form, and may stand there
 pub record IsStep (place : Place) (bytes : List ℕ) (line : Line) (next : Place) : Type 0 where
   pub going : is_over place ≡ false
-  pub form : line_of bytes ≡ Some line
+  pub form : claim_line bytes ≡ Some line
   pub placed : place_after place line ≡ Some next
 
 in_place-ok : (line : Line) (o : Option Place) (said : Line) (next : Place) → in_place line o ≡ Ok (said, next) → (line ≡ said) × (o ≡ Some next)
@@ -38,12 +38,12 @@ pub step-ok : (place : Place) (bytes : List ℕ) (line : Line) (next : Place) �
 step-ok place bytes line next is =
     elim (cases_Bool (is_over place)) [
       | inl over ↦ (let t = rw over at is in cc)
-      | inr going ↦ (let both = formed-ok place (line_of bytes) line next (rw going at is) in record { going = going; form = both.0; placed = both.1 })
+      | inr going ↦ (let both = formed-ok place (claim_line bytes) line next (rw going at is) in record { going = going; form = both.0; placed = both.1 })
     ]
 
 -- lines that are read have their forms and stand in their places
 abbrev pub AreRead : Place → List (List ℕ) → List Line → Type 0
-AreRead place all lines = (map line_of all ≡ map Some lines) × InOrder place lines
+AreRead place all lines = (map claim_line all ≡ map Some lines) × InOrder place lines
 
 onto_lines-ok : (line : Line) (r : Result (List Line) CertFault) (lines : List Line) → onto_lines line r ≡ Ok lines → (rest : List Line) × (r ≡ Ok rest) × (lines ≡ line ∷ rest)
 onto_lines-ok line (Ok rest) lines is = (rest, refl, (let same : Ok (line ∷ rest) ≡ Ok lines = is in let e : line ∷ rest ≡ lines = cc in sym e))
@@ -68,7 +68,7 @@ are_read (bytes ∷ rest) place at lines is = by (step place bytes) refl is (λ 
         let found = onto_lines-ok line (read_from next (at + 1) rest) lines h in
         let others = later next found.0 found.1 in
         subst (AreRead place (bytes ∷ rest)) (sym found.2) (
-          ap (λ o. o ∷ map line_of rest) one.form ∙ ap (λ os. Some line ∷ os) others.0,
+          ap (λ o. o ∷ map claim_line rest) one.form ∙ ap (λ os. Some line ∷ os) others.0,
           (one.going, subst (λ o. OnSome o (λ n. InOrder n found.0)) (sym one.placed) others.1),
         )
 
@@ -77,17 +77,17 @@ after_some : (o : Option Place) (P : Place → Type 0) → OnSome o P → (next 
 after_some None P is = absurd is
 after_some (Some place) P is = (place, refl, is)
 
-read_all : (all : List (List ℕ)) (place : Place) (at : ℕ) (lines : List Line) → map line_of all ≡ map Some lines → InOrder place lines → read_from place at all ≡ Ok lines
+read_all : (all : List (List ℕ)) (place : Place) (at : ℕ) (lines : List Line) → map claim_line all ≡ map Some lines → InOrder place lines → read_from place at all ≡ Ok lines
 read_all [] place at [] forms order = ap (λ b. cond b (Ok []) (Err (record { line = 0; code = NoEnd }))) order
 read_all [] place at (line ∷ lines) forms order = cc
 read_all (bytes ∷ rest) place at [] forms order = cc
 read_all (bytes ∷ rest) place at (line ∷ lines) forms (going, later) =
-    let both : line_of bytes ∷ map line_of rest ≡ Some line ∷ map Some lines = forms in
-    let form : line_of bytes ≡ Some line = cc in
-    let others : map line_of rest ≡ map Some lines = cc in
+    let both : claim_line bytes ∷ map claim_line rest ≡ Some line ∷ map Some lines = forms in
+    let form : claim_line bytes ≡ Some line = cc in
+    let others : map claim_line rest ≡ map Some lines = cc in
     let found = after_some (place_after place line) (λ next. InOrder next lines) later in
     let read : step place bytes ≡ Ok (line, found.0) =
-    ap (λ b. cond b (Err AfterEnd) (formed place (line_of bytes))) going ∙ ap (formed place) form ∙ ap (in_place line) found.1 in
+    ap (λ b. cond b (Err AfterEnd) (formed place (claim_line bytes))) going ∙ ap (formed place) form ∙ ap (in_place line) found.1 in
     ap (λ r. then_read at r (λ next. read_from next (at + 1) rest)) read ∙ ap (onto_lines line) (read_all rest found.0 (at + 1) lines others found.2)
 
 module _ (bytes : List ℕ) (claims : List Claim) where

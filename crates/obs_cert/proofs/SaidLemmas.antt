@@ -7,17 +7,17 @@ use Rattle.obs_cert.specs.Claims.{Claim}
 use Rattle.obs_cert.specs.Read.{claims_in, claims_of, parts_of, read_from}
 use Rattle.obs_cert.specs.inner.Read.{HasClaims, claims_or_none}
 use Rattle.obs_cert.specs.inner.Walked.{parts_in, said_line, said_lines}
-use Rattle.obs_cert.specs.Words.{Line, line_of}
+use Rattle.obs_cert.specs.Words.{Line, claim_line}
 use Rattle.obs_cert.proofs.LawLemmas.{are_read}
 
-said : (all : List (List ℕ)) (lines : List Line) → map line_of all ≡ map Some lines → said_lines all ≡ lines
+said : (all : List (List ℕ)) (lines : List Line) → map claim_line all ≡ map Some lines → said_lines all ≡ lines
 said [] [] e = refl
 said [] (line ∷ lines) e = cc
 said (bytes ∷ all) [] e = cc
 said (bytes ∷ all) (line ∷ lines) e =
-    let both : line_of bytes ∷ map line_of all ≡ Some line ∷ map Some lines = e in
-    let form : line_of bytes ≡ Some line = cc in
-    let others : map line_of all ≡ map Some lines = cc in
+    let both : claim_line bytes ∷ map claim_line all ≡ Some line ∷ map Some lines = e in
+    let form : claim_line bytes ≡ Some line = cc in
+    let others : map claim_line all ≡ map Some lines = cc in
     ap (λ (o : Option Line). said_line o (said_lines all)) form ∙ ap (λ ls. line ∷ ls) (said all lines others)
 
 by_read : (bytes : List ℕ) (claims : List Claim) (r : Result (List Line) CertFault) → read_from Start 1 (lines_of bytes) ≡ r → claims_in r ≡ Ok claims → (parts_in bytes).claims ≡ claims

@@ -34,7 +34,7 @@ use Rattle.obs_cert.specs.Claims.{Pair}
 use Rattle.obs_cert.specs.Flaws.{bound_clauses, cycle, first_flaw, first_true, flaw_at, flaw_of, list_clauses, not_below, not_touched, outside_of, paired_twice, rank_of_branches, rank_of_items, twice, wrong_outside, wrong_rank}
 use Rattle.obs_cert.specs.Numbered.{item_of, items_of, paired_items, pairs_of}
 use Rattle.obs_meter.specs.Lost.{is_listed}
-use Rattle.obs_cert.specs.Scopes.{named_component, names_component, scope_of, touches_of}
+use Rattle.obs_cert.specs.Scopes.{item_touches, named_component, names_component, scope_of}
 use Rattle.obs_cert.specs.Truths.{IsNameOf, NoFlawWhereAllHold}
 use Rattle.obs_cert.proofs.CountingLemmas.{distinct, each_passes}
 use Rattle.obs_meter.proofs.Touched.{In-from_any}
@@ -116,19 +116,19 @@ module _ (t : Tables) (v : IsValid t) where
       let different = distinct (items_of t (paired_items pairs)) (or_parts (twice (items_of t (paired_items pairs))) (twice (branches A)) once).0 in
       record {
         of_items = λ p i. within p.0 (subst (λ (xs : List ℕ). In p.0 xs) (items-pairs t pairs) (In-items A p i));
-        touched = λ p i. In-from_any (touches_of t p.0) p.1 (each_passes (λ (q : NumberPair). is_listed (touches_of t q.0) q.1) A touched p i);
+        touched = λ p i. In-from_any (item_touches t p.0) p.1 (each_passes (λ (q : NumberPair). is_listed (item_touches t q.0) q.1) A touched p i);
         different = subst (λ (xs : List ℕ). IsDistinct xs) (sym (items-pairs t pairs)) different;
         forest = forest_at-from_independent (case_vertex_count t) (case_branches t) (branches A) (independent_from_rank g laws (branches A) (rank ∙ sym (length-branches A)));
       }
 
   -- what is touched by the listed ones of a list spans no more than what is touched by all that are listed
-  pub rank_within : (M list : List ℕ) → rank_of_branches t (flat_map (touches_of t) (filter (is_listed list) M)) ≤ rank_of_items t list
+  pub rank_within : (M list : List ℕ) → rank_of_branches t (flat_map (item_touches t) (filter (is_listed list) M)) ≤ rank_of_items t list
   rank_within M list =
-      rank-within g laws (flat_map (touches_of t) (filter (is_listed list) M)) (flat_map (touches_of t) list)
+      rank-within g laws (flat_map (item_touches t) (filter (is_listed list) M)) (flat_map (item_touches t) list)
       (λ e i.
-      let w = In-flat_map_from (touches_of t) e (filter (is_listed list) M) i in
+      let w = In-flat_map_from (item_touches t) e (filter (is_listed list) M) i in
       let u = In-filter_from (is_listed list) w.0 M w.1 in
-      laws.member (flat_map (touches_of t) list) e (In-flat_map (touches_of t) w.0 e list (In-from_any list w.0 u.1) w.2))
+      laws.member (flat_map (item_touches t) list) e (In-flat_map (item_touches t) w.0 e list (In-from_any list w.0 u.1) w.2))
 
   -- where the clauses on stated numbers are true, no assignment of the scope is as long as the need
   pub bound_below : (test : ℕ → Bool) (list : List ℕ) (rank outside need : ℕ) → first_true (list_clauses t test list rank outside need) ≡ None → (B : List NumberPair)

@@ -9,9 +9,9 @@ use Rattle.obs_cert.specs.declared.flaw.FlawCode.{FlawCode}
 use Rattle.obs_cert.specs.declared.flaw.FlawCode.TheVariants.{UnknownName, NotComponent, NotInside, NotTouched, Twice, Cycle, WrongLength, WrongRank, WrongOutside, NotBelow, WrongLayers, WrongCost}
 use Rattle.obs_cert.specs.declared.flaw.Flaw.{Flaw}
 use Rattle.obs_cert.specs.Claims.{Claim, BoundClaim, CostClaim, Item, Layer, Pair, ShortfallClaim, TreeClaim, tree, bound, cost, shortfall}
-use Rattle.obs_cert.specs.Numbered.{chosen_items, is_known, is_known_branch, items_of, paired_items, pairs_of}
+use Rattle.obs_cert.specs.Numbered.{candidate_items, is_known, is_known_branch, items_of, paired_items, pairs_of}
 use Rattle.obs_meter.specs.Lost.{is_listed}
-use Rattle.obs_cert.specs.Scopes.{is_below, is_live_item, is_meter_in, is_of_plan, named_component, named_need, names_component, price_at, scope_of, touches_of}
+use Rattle.obs_cert.specs.Scopes.{is_below, is_live_item, is_meter_in, is_of_plan, item_touches, named_component, named_need, names_component, price_at, scope_of}
 
 -- an item isn't in its table, or a word stands for no branch in its pair
 abbrev pub unknown_item : Tables → List Item → Bool
@@ -30,7 +30,7 @@ not_inside scope list = list_any (λ m. not (scope m)) list
 
 -- a pair's branch isn't touched by its item
 abbrev pub not_touched : Tables → List NumberPair → Bool
-not_touched t pairs = list_any (λ (p : NumberPair). not (is_listed (touches_of t p.0) p.1)) pairs
+not_touched t pairs = list_any (λ (p : NumberPair). not (is_listed (item_touches t p.0) p.1)) pairs
 
 -- a number stands twice
 abbrev pub twice : List ℕ → Bool
@@ -46,7 +46,7 @@ abbrev pub rank_of_branches : Tables → List ℕ → ℕ
 rank_of_branches t positions = rank_at (case_vertex_count t) (case_branches t) positions
 
 abbrev pub rank_of_items : Tables → List ℕ → ℕ
-rank_of_items t list = rank_of_branches t (flat_map (touches_of t) list)
+rank_of_items t list = rank_of_branches t (flat_map (item_touches t) list)
 
 -- the pairs' branches are no forest: their rank isn't their number
 abbrev pub cycle : Tables → List NumberPair → Bool
@@ -125,7 +125,7 @@ abbrev pub costs_clauses : Tables → CostClaim → List (Bool × FlawCode)
 costs_clauses t c =
     (list_any (λ (l : Layer). not_below l.rank l.outside (case_needed t)) c.layers, NotBelow)
     ∷ (not (runs_on 0 c.layers), WrongLayers)
-    ∷ (wrong_cost t (items_of t (chosen_items c.chosen)) c.layers c.number, WrongCost)
+    ∷ (wrong_cost t (items_of t (candidate_items c.chosen)) c.layers c.number, WrongCost)
     ∷ []
 
 -- the clauses on the ranks of layers and the numbers outside, and these
@@ -165,18 +165,18 @@ bound_flaw t c =
 -- a name of a cost claim isn't in its table
 abbrev pub unknown_in_plan : Tables → CostClaim → Bool
 unknown_in_plan t c =
-    unknown_item t (chosen_items c.chosen) || (unknown_pair t c.pairs || unknown_item t (all_inside c.layers))
+    unknown_item t (candidate_items c.chosen) || (unknown_pair t c.pairs || unknown_item t (all_inside c.layers))
 
 -- a paired item is idle or a candidate that isn't chosen, or a listed item is none that its layer may speak of
 abbrev pub outside_of_plan : Tables → CostClaim → Bool
 outside_of_plan t c =
-    not_inside (is_of_plan t (is_listed (items_of t (chosen_items c.chosen)))) (items_of t (paired_items c.pairs))
+    not_inside (is_of_plan t (is_listed (items_of t (candidate_items c.chosen)))) (items_of t (paired_items c.pairs))
     || list_any (λ (l : Listed). not_inside (is_below t l.layer.to) l.list) (listed_layers t c.layers)
 
 -- a candidate is chosen twice, or an item or a branch stands in two pairs, or an item stands twice in the lists
 abbrev pub twice_in_plan : Tables → CostClaim → Bool
 twice_in_plan t c =
-    twice (items_of t (chosen_items c.chosen)) || (paired_twice t c.pairs || twice (items_of t (all_inside c.layers)))
+    twice (items_of t (candidate_items c.chosen)) || (paired_twice t c.pairs || twice (items_of t (all_inside c.layers)))
 
 -- the flaw of a cost claim
 abbrev pub cost_flaw : Tables → CostClaim → Option FlawCode

@@ -54,5 +54,5 @@ pairs_of t pairs = map (pair_of t) pairs
 abbrev pub paired_items : List Pair → List Item
 paired_items pairs = map (λ (p : Pair). p.item) pairs
 
-abbrev pub chosen_items : List (List ℕ) → List Item
-chosen_items names = map candidate names
+abbrev pub candidate_items : List (List ℕ) → List Item
+candidate_items names = map candidate names

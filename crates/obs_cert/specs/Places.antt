@@ -4,7 +4,7 @@ use Rattle.obs_cert.specs.declared.fault.CertCode.{CertCode}
 use Rattle.obs_cert.specs.declared.fault.CertCode.TheVariants.{BadLine, OutOfPlace, AfterEnd}
 use Rattle.obs_cert.specs.declared.place.Place.{Place}
 use Rattle.obs_cert.specs.declared.place.Place.TheVariants.{Start, Tree, Bound, Cost, Pairs, Layer, Shortfall, End}
-use Rattle.obs_cert.specs.Words.{Line, tree_line, bound_line, cost_line, shortfall_line, pair_line, chosen_line, layer_line, inside_line, end_line, line_of}
+use Rattle.obs_cert.specs.Words.{Line, tree_line, bound_line, cost_line, shortfall_line, pair_line, chosen_line, layer_line, inside_line, end_line, claim_line}
 
 -- the place after a pair line: it stands after a tree line, a cost line, a chosen line or a pair line
 abbrev pub pair_after : Place → Option Place
@@ -85,4 +85,4 @@ formed place (Some line) = in_place line (place_after place line)
 
 -- the line that bytes are at a place, with the place after it, or what is wrong with it
 abbrev pub step : Place → List ℕ → Result (Line × Place) CertCode
-step place bytes = if is_over place then Err AfterEnd else formed place (line_of bytes)
+step place bytes = if is_over place then Err AfterEnd else formed place (claim_line bytes)

@@ -26,7 +26,7 @@ read_from place at [] = if is_over place then Ok [] else Err (record { line = 0;
 read_from place at (bytes ∷ rest) = then_read at (step place bytes) (λ next. read_from next (at + 1) rest)
 
 -- what lines are: the claims that start in them, and what stands before the first of these
-pub record Parts : Type 0 where
+pub record ClaimParts : Type 0 where
   pub chosen : List (List ℕ)
   pub pairs : List Pair
   pub inside : List Item
@@ -34,11 +34,11 @@ pub record Parts : Type 0 where
   pub claims : List Claim
 
 -- nothing but claims
-abbrev pub only_claims : List Claim → Parts
+abbrev pub only_claims : List Claim → ClaimParts
 only_claims claims = record { chosen = []; pairs = []; inside = []; layers = []; claims = claims }
 
 -- one line before other lines: a line that starts a claim takes what stands before the next one, a layer line the inside lines
-abbrev pub onto_parts : Line → Parts → Parts
+abbrev pub onto_parts : Line → ClaimParts → ClaimParts
 onto_parts (tree_line component) parts = only_claims (tree (record { component = component; pairs = parts.pairs }) ∷ parts.claims)
 onto_parts (bound_line component rank outside) parts =
     only_claims (bound (record { component = component; rank = rank; outside = outside; inside = parts.inside }) ∷ parts.claims)
@@ -53,7 +53,7 @@ onto_parts (layer_line from to rank outside) parts =
 onto_parts (inside_line item) parts = record parts { inside = item ∷ parts.inside }
 onto_parts end_line parts = parts
 
-abbrev pub parts_of : List Line → Parts
+abbrev pub parts_of : List Line → ClaimParts
 parts_of [] = only_claims []
 parts_of (line ∷ lines) = onto_parts line (parts_of lines)
 

@@ -12,8 +12,8 @@ abbrev pub price_at : Tables → ℕ → ℕ
 price_at t m = slice_index_or (prices_of t.candidates) (m - length t.meters) 0
 
 -- the branches that an item touches
-abbrev pub touches_of : Tables → ℕ → List ℕ
-touches_of t m = touch_at (case_branches t) (case_offered t) m
+abbrev pub item_touches : Tables → ℕ → List ℕ
+item_touches t m = touch_at (case_branches t) (case_offered t) m
 
 -- whether an item is live: it touches a branch
 abbrev pub is_live_item : Tables → ℕ → Bool

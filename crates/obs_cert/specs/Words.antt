@@ -100,5 +100,5 @@ line_of_words (kind ∷ a ∷ b ∷ c ∷ d ∷ []) = of_five kind a b c d
 line_of_words (kind ∷ a ∷ b ∷ c ∷ d ∷ e ∷ words) = None
 
 -- the line that bytes are, if they have the form of one
-abbrev pub line_of : List ℕ → Option Line
-line_of bytes = line_of_words (words_of bytes)
+abbrev pub claim_line : List ℕ → Option Line
+claim_line bytes = line_of_words (words_of bytes)

@@ -2,7 +2,7 @@
 ghost use Rattle.std.specs.Prelude.{◌≡◌, ◌+◌, None, Some, IfErr, IfOk, OnOk, length};
 ghost use Rattle.obs_network.specs.Network.{network_of, rows_of};
 ghost use Rattle.obs_cert.specs.Flaws.{first_flaw};
-ghost use Rattle.obs_cert.specs.inner.Ready.{HasRoom};
+ghost use Rattle.obs_cert.specs.inner.Ready.{HasRoomForRows};
 
 use crate::cert::Cert;
 use crate::claims::flaw_of;
@@ -30,13 +30,13 @@ pub struct Checker {
 impl Model for Checker {
     ghost use Rattle.std.specs.Prelude.{◌≡◌, ◌+◌, length};
     ghost use Rattle.obs_network.specs.Network.{Network};
-    ghost use Rattle.obs_cert.specs.inner.Ready.{HasRoom};
+    ghost use Rattle.obs_cert.specs.inner.Ready.{HasRoomForRows};
 
     ghost Value = { Network };
 
     ghost view = { λ c. c.network };
 
-    ghost invariant = { λ c. HasRoom c.network.rows c.work
+    ghost invariant = { λ c. HasRoomForRows c.network.rows c.work
         × (length c.keys.items ≡ c.network.rows.meters + c.network.rows.candidates) };
 }
 
@@ -96,10 +96,10 @@ fn first_flaw(
     work: &mut Work,
     keys: &mut [u128],
 ) -> Option<Flaw>
-    requires room { HasRoom (rows_of present.now) work.old }
+    requires room { HasRoomForRows (rows_of present.now) work.old }
     requires keys { length keys.old ≡ length present.now.meters + length present.now.candidates }
     ensures flaw { result ≡ first_flaw present.now 1 cert.now }
-    ensures room { HasRoom (rows_of present.now) work.new }
+    ensures room { HasRoomForRows (rows_of present.now) work.new }
     ensures keys { length keys.new ≡ length keys.old }
 {
     work.begin(present);

@@ -5,7 +5,7 @@ ghost use Rattle.obs_cert.specs.Flaws.{bound_clauses, bound_flaw, first_true, fl
 ghost use Rattle.obs_cert.specs.inner.InScope.{in_scope};
 ghost use Rattle.obs_cert.specs.inner.Keys.{AreKeys};
 ghost use Rattle.obs_cert.specs.Numbered.{items_of};
-ghost use Rattle.obs_cert.specs.inner.Ready.{IsReady};
+ghost use Rattle.obs_cert.specs.inner.Ready.{IsReadyFor};
 ghost use Rattle.obs_cert.specs.Scopes.{is_live_item, scope_of};
 ghost use Rattle.obs_cert.specs.inner.Scopes.{OfItems};
 ghost use Rattle.obs_cert.specs.inner.Walked.{claim_said, parts_in};
@@ -29,9 +29,9 @@ fn tree(
     work: &mut Work,
     stamp: u32,
 ) -> Option<FlawCode>
-    requires ready { IsReady present.now stamp work.old }
+    requires ready { IsReadyFor present.now stamp work.old }
     ensures flaw { result ≡ tree_flaw present.now (record { component = name.now; pairs = (parts_in rest.now).pairs }) }
-    ensures ready { IsReady present.now (suc stamp) work.new }
+    ensures ready { IsReadyFor present.now (suc stamp) work.new }
 {
     let case = present.case();
     let Some(named) = component_named(present, name) else {
@@ -73,13 +73,13 @@ fn numbers(
     stated: Stated,
     work: &mut Work,
 ) -> Option<FlawCode>
-    requires ready { (stamp : ℕ) × IsReady present.now stamp work.old }
+    requires ready { (stamp : ℕ) × IsReadyFor present.now stamp work.old }
     requires once { twice (items_of present.now (parts_in rest.now).inside) ≡ false }
     ensures flaw { (test : ℕ → Bool) → scope ≡ length (scope_of present.now test) → OfItems present.now test
         → not_inside test (items_of present.now (parts_in rest.now).inside) ≡ false
         → result ≡ first_true (bound_clauses present.now test (items_of present.now (parts_in rest.now).inside)
         stated.rank stated.outside stated.need) }
-    ensures ready { (stamp : ℕ) → IsReady present.now stamp work.old → IsReady present.now stamp work.new }
+    ensures ready { (stamp : ℕ) → IsReadyFor present.now stamp work.old → IsReadyFor present.now stamp work.new }
 {
     let rank = measure_listed(
         present,
@@ -115,7 +115,7 @@ fn list(
 ) -> Option<FlawCode>
     requires count { count ≡ length (scope_of present.now (in_scope present.now scope)) }
     requires items { OfItems present.now (in_scope present.now scope) }
-    requires ready { IsReady present.now stamp work.old }
+    requires ready { IsReadyFor present.now stamp work.old }
     ensures flaw { result ≡ first_true ((
       not_inside (in_scope present.now scope.entry)
           (items_of present.now (parts_in rest.now).inside),
@@ -123,7 +123,7 @@ fn list(
     )
         ∷ list_clauses present.now (in_scope present.now scope.entry) (items_of present.now (parts_in rest.now).inside)
         stated.rank stated.outside stated.need) }
-    ensures ready { IsReady present.now (suc stamp) work.new }
+    ensures ready { IsReadyFor present.now (suc stamp) work.new }
 {
     let case = present.case();
     if has_outside(present, scope, walk_items(Sort::Inside, rest)) {
@@ -145,14 +145,14 @@ fn bound(
     work: &mut Work,
     stamp: u32,
 ) -> Option<FlawCode>
-    requires ready { IsReady present.now stamp work.old }
+    requires ready { IsReadyFor present.now stamp work.old }
     ensures flaw { result ≡ bound_flaw present.now (record {
       component = name.now;
       rank = numbers.0;
       outside = numbers.1;
       inside = (parts_in rest.now).inside;
     }) }
-    ensures ready { IsReady present.now (suc stamp) work.new }
+    ensures ready { IsReadyFor present.now (suc stamp) work.new }
 {
     let case = present.case();
     let network = present.network();
@@ -185,13 +185,13 @@ fn shortfall(
     stamp: u32,
 ) -> Option<FlawCode>
     requires live { live ≡ length (scope_of present.now (is_live_item present.now)) }
-    requires ready { IsReady present.now stamp work.old }
+    requires ready { IsReadyFor present.now stamp work.old }
     ensures flaw { result ≡ shortfall_flaw present.now (record {
       rank = numbers.0;
       outside = numbers.1;
       inside = (parts_in rest.now).inside;
     }) }
-    ensures ready { IsReady present.now (suc stamp) work.new }
+    ensures ready { IsReadyFor present.now (suc stamp) work.new }
 {
     let case = present.case();
     let network = present.network();
@@ -217,9 +217,9 @@ pub(crate) fn flaw_of(
 ) -> Option<FlawCode>
     requires keys { AreKeys present.now keys.now }
     requires live { live ≡ length (scope_of present.now (is_live_item present.now)) }
-    requires ready { IsReady present.now stamp work.old }
+    requires ready { IsReadyFor present.now stamp work.old }
     ensures flaw { result ≡ flaw_of present.now (claim_said claim.entry) }
-    ensures ready { IsReady present.now (suc stamp) work.new }
+    ensures ready { IsReadyFor present.now (suc stamp) work.new }
 {
     match claim {
         ClaimLines::Tree(name, rest) => tree(present, name, rest, work, stamp),

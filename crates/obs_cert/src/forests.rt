@@ -6,7 +6,7 @@ ghost use Rattle.obs_cert.specs.inner.Joins.{AreJoined};
 ghost use Rattle.obs_cert.specs.inner.Marks.{AreBelow};
 ghost use Rattle.obs_cert.specs.Numbered.{pairs_of};
 ghost use Rattle.obs_cert.specs.declared.flaw.FlawCode.{FlawCode};
-ghost use Rattle.obs_cert.specs.inner.Ready.{HasRoom, IsReady};
+ghost use Rattle.obs_cert.specs.inner.Ready.{HasRoomForRows, IsReadyFor};
 ghost use Rattle.obs_cert.specs.inner.Walked.{parts_in};
 
 use crate::flaw::FlawCode;
@@ -52,15 +52,15 @@ pub(crate) fn forest(
     need: u32,
     work: &mut Work,
 ) -> Option<FlawCode>
-    requires room { HasRoom (rows_of present.now) work.old }
+    requires room { HasRoomForRows (rows_of present.now) work.old }
     requires clear { AreJoined [] work.old.ups.items [] }
     ensures none { IfNone result ((clauses : List (Bool × FlawCode)) →
         first_true (forest_clauses present.now (pairs_of present.now (parts_in rest.now).pairs) need clauses)
         ≡ first_true clauses) }
     ensures flaw { IfSome result (λ code. (clauses : List (Bool × FlawCode)) →
         first_true (forest_clauses present.now (pairs_of present.now (parts_in rest.now).pairs) need clauses) ≡ Some code) }
-    ensures ready { (stamp : ℕ) → IsReady present.now stamp work.old → IsReady present.now stamp work.new }
-    ensures room { HasRoom (rows_of present.now) work.new }
+    ensures ready { (stamp : ℕ) → IsReadyFor present.now stamp work.old → IsReadyFor present.now stamp work.new }
+    ensures room { HasRoomForRows (rows_of present.now) work.new }
     ensures clear { AreJoined [] work.new.ups.items [] }
 {
     let forest = measure_pairs(present, walk_pairs(rest), &mut work.ups, &mut work.moved);

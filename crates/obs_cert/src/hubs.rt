@@ -6,7 +6,7 @@ ghost use Rattle.obs_matroid.specs.Lists.{In};
 ghost use Rattle.obs_network.specs.Network.{case_rows, network_of};
 ghost use Rattle.obs_cert.specs.inner.Contractions.{FitsIn, IsContracted};
 ghost use Rattle.obs_cert.specs.inner.Hubs.{Hubs};
-ghost use Rattle.obs_cert.specs.Scopes.{touches_of};
+ghost use Rattle.obs_cert.specs.Scopes.{item_touches};
 
 use crate::contraction::Contraction;
 use crate::memory::NoMemory;
@@ -127,9 +127,9 @@ impl Hubs {
 pub(crate) fn is_repeated(present: &Present<'_>, m: u32, hubs: &mut Hubs) -> bool
     requires room { (network_of present.now).graph.vertices ≤ hubs.old.room }
     ensures repeated { result ≡ true →
-        (v : ℕ) × (touches_of present.now m ≡ branches_at (case_rows present.now) v) × In v hubs.old.list }
+        (v : ℕ) × (item_touches present.now m ≡ branches_at (case_rows present.now) v) × In v hubs.old.list }
     ensures listed { (u : ℕ) → In u hubs.new.list →
-        In u hubs.old.list ⊎ (touches_of present.now m ≡ branches_at (case_rows present.now) u) }
+        In u hubs.old.list ⊎ (item_touches present.now m ≡ branches_at (case_rows present.now) u) }
     ensures room { hubs.new.room ≡ hubs.old.room }
     ensures valid { IsValid present.now }
 {

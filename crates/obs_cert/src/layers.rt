@@ -8,7 +8,7 @@ ghost use Rattle.obs_cert.specs.inner.Joins.{AreFree, AreJoined};
 ghost use Rattle.obs_cert.specs.inner.Keys.{AreKeys};
 ghost use Rattle.obs_cert.specs.Numbered.{items_of};
 ghost use Rattle.obs_cert.specs.Scopes.{is_below, is_live_item, scope_of};
-ghost use Rattle.obs_cert.specs.inner.Seen.{Tells, too_dear};
+ghost use Rattle.obs_cert.specs.inner.Seen.{TellsLayers, too_dear};
 
 use crate::contraction::Contraction;
 use crate::hubs::Hubs;
@@ -41,7 +41,7 @@ fn dearer(dearest: Option<u64>, price: u64) -> Option<u64>
 
 // The same with one item more.
 fn see(present: &Present<'_>, m: u32, seen: Seen) -> Seen
-    ensures tells { (list : List ℕ) → Tells present.now list seen → Tells present.now (list ++ m ∷ []) result }
+    ensures tells { (list : List ℕ) → TellsLayers present.now list seen → TellsLayers present.now (list ++ m ∷ []) result }
 {
     let case = present.case();
     if !is_live(present, m) {
@@ -61,8 +61,8 @@ fn see(present: &Present<'_>, m: u32, seen: Seen) -> Seen
 
 // The same with these items more.
 fn see_items(present: &Present<'_>, items: Items<'_>, seen: Seen) -> Seen
-    ensures tells { (list : List ℕ) → Tells present.now list seen
-        → Tells present.now (list ++ items_of present.now items.entry) result }
+    ensures tells { (list : List ℕ) → TellsLayers present.now list seen
+        → TellsLayers present.now (list ++ items_of present.now items.entry) result }
 {
     let case = present.case();
     let mut seen = seen;

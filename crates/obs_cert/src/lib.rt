@@ -14,6 +14,7 @@ mod keys;
 pub mod laws;
 mod layers;
 mod line;
+mod line_words;
 mod links;
 mod lists;
 mod marks;
@@ -25,7 +26,6 @@ mod plans;
 mod scopes;
 mod stars;
 mod walk;
-mod words;
 mod work;
 
 pub use cert::{Cert, read_cert};

@@ -4,9 +4,9 @@ ghost use Rattle.std.specs.Option.{option_map};
 ghost use Rattle.std.specs.Str.{bytes_eq};
 ghost use Rattle.obs_text.specs.Numbers.{whole_of};
 ghost use Rattle.obs_cert.specs.inner.Said.{item_said, line_said};
-ghost use Rattle.obs_cert.specs.Words.{bound_of, item_in, line_of, line_of_words, name_in, of_five, of_four, of_one, of_three, of_two, pair_line_of, words_of};
+ghost use Rattle.obs_cert.specs.Words.{bound_of, claim_line, item_in, line_of_words, name_in, of_five, of_four, of_one, of_three, of_two, pair_line_of, words_of};
 
-use crate::words::first_word;
+use crate::line_words::first_word;
 use obs_text::{name_of, whole};
 
 /// A meter or a candidate, by its name.
@@ -229,7 +229,7 @@ fn after_one<'a>(kind: &[u8], bytes: &'a [u8]) -> Option<Line<'a>>
 
 /// The line that bytes are: words with one tab between them, that have one of the nine forms.
 pub(crate) fn read_line(bytes: &[u8]) -> Option<Line<'_>>
-    ensures line { option_map line_said result ≡ line_of bytes.now }
+    ensures line { option_map line_said result ≡ claim_line bytes.now }
 {
     let (kind, rest) = first_word(bytes);
     match rest {

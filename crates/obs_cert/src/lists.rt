@@ -11,7 +11,7 @@ ghost use Rattle.obs_cert.specs.inner.Joins.{AreFree, AreJoined, AreWays, onto};
 ghost use Rattle.obs_cert.specs.inner.Marks.{AreBelow, is_marked};
 ghost use Rattle.obs_cert.specs.Numbered.{items_of};
 ghost use Rattle.obs_meter.specs.Lost.{is_listed};
-ghost use Rattle.obs_cert.specs.Scopes.{price_at, touches_of};
+ghost use Rattle.obs_cert.specs.Scopes.{item_touches, price_at};
 
 use crate::contraction::Contraction;
 use crate::hubs::{Hubs, is_repeated};
@@ -100,7 +100,7 @@ fn join_touched(
     requires ways { AreWays ups.old moved.old count }
     requires vertices { (network_of present.now).graph.vertices ≤ length ups.old }
     ensures joined { (es : List Ends) → AreJoined es ups.old (take count moved.old) →
-        AreJoined (onto (contracted_ends contraction.entry (case_branches present.now)) (touches_of present.now m) es) ups.new (take result moved.new) }
+        AreJoined (onto (contracted_ends contraction.entry (case_branches present.now)) (item_touches present.now m) es) ups.new (take result moved.new) }
     ensures count { result ≤ length moved.new }
 {
     let network = present.network();
@@ -129,7 +129,7 @@ fn join_item(
     requires hubs { AreHubs present.now contraction hubs.old.list ups.old }
     requires hub_room { length ups.old ≤ hubs.old.room }
     ensures joined { (es : List Ends) → AreJoined es ups.old (take count moved.old) →
-        AreJoined (onto (contracted_ends contraction.entry (case_branches present.now)) (touches_of present.now m) es) ups.new (take result moved.new) }
+        AreJoined (onto (contracted_ends contraction.entry (case_branches present.now)) (item_touches present.now m) es) ups.new (take result moved.new) }
     ensures count { result ≤ length moved.new }
     ensures hubs { AreHubs present.now contraction.entry hubs.new.list ups.new }
     ensures hub_room { hubs.new.room ≡ hubs.old.room }
@@ -156,7 +156,7 @@ pub(crate) fn join_items(
     requires hubs { AreHubs present.now contraction hubs.old.list ups.old }
     requires hub_room { length ups.old ≤ hubs.old.room }
     ensures joined { (es : List Ends) → AreJoined es ups.old (take count moved.old) →
-        AreJoined (onto (contracted_ends contraction.entry (case_branches present.now)) (flat_map (touches_of present.now) (items_of present.now items.entry)) es)
+        AreJoined (onto (contracted_ends contraction.entry (case_branches present.now)) (flat_map (item_touches present.now) (items_of present.now items.entry)) es)
         ups.new (take result moved.new) }
     ensures count { result ≤ length moved.new }
     ensures hubs { AreHubs present.now contraction.entry hubs.new.list ups.new }

@@ -6,8 +6,8 @@ ghost use Rattle.obs_cert.specs.Flaws.{all_inside, costs_clauses, cost_flaw, fir
 ghost use Rattle.obs_cert.specs.inner.Joins.{AreJoined};
 ghost use Rattle.obs_cert.specs.inner.Keys.{AreKeys};
 ghost use Rattle.obs_cert.specs.inner.Marks.{is_marked};
-ghost use Rattle.obs_cert.specs.Numbered.{chosen_items, items_of};
-ghost use Rattle.obs_cert.specs.inner.Ready.{HasRoom, IsReady};
+ghost use Rattle.obs_cert.specs.Numbered.{candidate_items, items_of};
+ghost use Rattle.obs_cert.specs.inner.Ready.{HasRoomForRows, IsReadyFor};
 ghost use Rattle.obs_meter.specs.Lost.{is_listed};
 ghost use Rattle.obs_cert.specs.Scopes.{is_below};
 ghost use Rattle.obs_cert.specs.inner.Walked.{cost_of, parts_in};
@@ -53,13 +53,13 @@ fn layers(
     work: &mut Work,
 ) -> Option<FlawCode>
     requires keys { AreKeys present.now keys.now }
-    requires room { HasRoom (rows_of present.now) work.old }
+    requires room { HasRoomForRows (rows_of present.now) work.old }
     requires clear { AreJoined [] work.old.ups.items [] }
     requires inside { list_any (λ l. not_inside (is_below present.now l.layer.to) l.list)
         (listed_layers present.now (parts_in rest.now).layers) ≡ false }
     requires once { twice (items_of present.now (all_inside (parts_in rest.now).layers)) ≡ false }
     ensures flaw { result ≡ first_true (layers_clauses present.now (cost_of number (parts_in rest.now))) }
-    ensures ready { (stamp : ℕ) → IsReady present.now stamp work.old → IsReady present.now stamp work.new }
+    ensures ready { (stamp : ℕ) → IsReadyFor present.now stamp work.old → IsReadyFor present.now stamp work.new }
 {
     let case = present.case();
     let network = present.network();
@@ -90,7 +90,7 @@ fn has_unknown_name(case: &Case, rest: &[u8]) -> bool
 // Whether an item of a cost claim, whose chosen candidates are marked, isn't one that it may speak of.
 fn has_outside_item(present: &Present<'_>, rest: &[u8], chosen: &[u32], stamp: u32) -> bool
     requires marked { (x : ℕ) → is_marked chosen.now stamp x
-        ≡ is_listed (items_of present.now (chosen_items (parts_in rest.now).chosen)) x }
+        ≡ is_listed (items_of present.now (candidate_items (parts_in rest.now).chosen)) x }
     ensures outside { (number : ℕ) → result ≡ outside_of_plan present.now (cost_of number (parts_in rest.now)) }
 {
     let paired = walk_items(Sort::Paired, rest);
@@ -108,11 +108,11 @@ fn either(a: bool, b: bool, c: bool) -> bool
 // Whether a candidate is chosen twice, or an item or a branch stands in two pairs, or an item stands twice in the lists.
 // Marks them with the stamp.
 fn has_twice_in_plan(case: &Case, rest: &[u8], work: &mut Work, stamp: u32) -> bool
-    requires ready { IsReady case.now stamp work.old }
+    requires ready { IsReadyFor case.now stamp work.old }
     ensures twice { (number : ℕ) → result ≡ twice_in_plan case.now (cost_of number (parts_in rest.now)) }
     ensures marked { (x : ℕ) → is_marked work.new.chosen.items stamp x
-        ≡ is_listed (items_of case.now (chosen_items (parts_in rest.now).chosen)) x }
-    ensures ready { IsReady case.now (suc stamp) work.new }
+        ≡ is_listed (items_of case.now (candidate_items (parts_in rest.now).chosen)) x }
+    ensures ready { IsReadyFor case.now (suc stamp) work.new }
 {
     let chosen = walk_items(Sort::Chosen, rest);
     let chosen_twice = has_twice(case, chosen, &mut work.chosen, stamp);
@@ -132,9 +132,9 @@ pub(crate) fn plan(
     stamp: u32,
 ) -> Option<FlawCode>
     requires keys { AreKeys present.now keys.now }
-    requires ready { IsReady present.now stamp work.old }
+    requires ready { IsReadyFor present.now stamp work.old }
     ensures flaw { result ≡ cost_flaw present.now (cost_of number (parts_in rest.now)) }
-    ensures ready { IsReady present.now (suc stamp) work.new }
+    ensures ready { IsReadyFor present.now (suc stamp) work.new }
 {
     let case = present.case();
     let network = present.network();

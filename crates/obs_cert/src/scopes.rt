@@ -6,7 +6,7 @@ ghost use Rattle.obs_network.specs.Network.{is_meter, network_of};
 ghost use Rattle.obs_network.specs.Switched.{case_first_node};
 ghost use Rattle.obs_cert.specs.inner.Marks.{is_marked};
 ghost use Rattle.obs_meter.specs.Lost.{is_listed};
-ghost use Rattle.obs_cert.specs.Scopes.{is_live_item, is_this, named_component, named_need, names_at, names_component, price_at, touches_of};
+ghost use Rattle.obs_cert.specs.Scopes.{is_live_item, is_this, item_touches, named_component, named_need, names_at, names_component, price_at};
 ghost use Rattle.obs_case.specs.Tables.{has_name, node_names};
 ghost use Rattle.obs_cert.specs.inner.InScope.{in_scope};
 
@@ -94,7 +94,7 @@ fn is_touched(g: &Graph, items: &Meters, m: u32, e: u32) -> bool
 
 /// Whether an item touches a branch.
 pub(crate) fn touches(present: &Present<'_>, m: u32, e: u32) -> bool
-    ensures touched { result ≡ is_listed (touches_of present.now m) e }
+    ensures touched { result ≡ is_listed (item_touches present.now m) e }
 {
     let network = present.network();
     if m < network.offered().count() {

@@ -9,7 +9,7 @@ ghost use Rattle.obs_cert.specs.Flaws.{rank_of_items};
 ghost use Rattle.obs_cert.specs.inner.Joins.{AreFree, AreJoined};
 ghost use Rattle.obs_cert.specs.inner.Links.{AreLinks};
 ghost use Rattle.obs_cert.specs.Numbered.{items_of};
-ghost use Rattle.obs_cert.specs.Scopes.{touches_of};
+ghost use Rattle.obs_cert.specs.Scopes.{item_touches};
 ghost use Rattle.obs_cert.specs.inner.Stars.{AreStarRanks, IsInjection, star_rank};
 ghost use Rattle.obs_cert.specs.inner.Walked.{parts_in};
 
@@ -27,7 +27,7 @@ const MANY: usize = 8;
 
 /// The hub of an item: it touches the rows of the branch table there.
 pub(crate) fn star_of(present: &Present<'_>, m: u32) -> Option<Hub>
-    ensures star { IfSome result (λ h. touches_of present.now m ≡ branches_at (case_rows present.now) h.vertex) }
+    ensures star { IfSome result (λ h. item_touches present.now m ≡ branches_at (case_rows present.now) h.vertex) }
     ensures vertex { IfSome result (λ h. h.vertex < (network_of present.now).graph.vertices) }
     ensures item { IfSome result (λ h. m < length (case_offered present.now)) }
 {

@@ -1,7 +1,7 @@
 // What claims are checked in.
 ghost use Rattle.std.specs.Prelude.{IfOk};
 ghost use Rattle.obs_network.specs.Network.{rows_of};
-ghost use Rattle.obs_cert.specs.inner.Ready.{HasRoom, IsReady};
+ghost use Rattle.obs_cert.specs.inner.Ready.{HasRoomForRows, IsReadyFor};
 
 use crate::hubs::Hubs;
 use crate::joins::begin;
@@ -50,7 +50,7 @@ impl Drop for Work {
 impl Work {
     /// Room for the claims on a case.
     pub(crate) fn make(alloc: Global, case: &Case) -> Result<Work, NoMemory>
-        ensures room { IfOk result (HasRoom (rows_of case.now)) }
+        ensures room { IfOk result (HasRoomForRows (rows_of case.now)) }
     {
         let vertices = vertex_room(case) as usize;
         let items = case.meters().len() + case.candidates().len() + 1;
@@ -97,8 +97,8 @@ impl Work {
 
     /// Nothing is marked or joined, no rank is known, and the rows are those of the case.
     pub(crate) fn begin(&mut self, present: &Present<'_>)
-        requires room { HasRoom (rows_of present.now) self.old }
-        ensures ready { IsReady present.now 1 self.new }
+        requires room { HasRoomForRows (rows_of present.now) self.old }
+        ensures ready { IsReadyFor present.now 1 self.new }
     {
         self.chosen.fill(0);
         self.paired.fill(0);

@@ -18,7 +18,7 @@ use Rattle.obs_repair.proofs.Tight.{bound_is, observable-from, rank_few}
 use Rattle.obs_cert.specs.declared.flaw.FlawCode.TheVariants.{Twice}
 use Rattle.obs_cert.specs.Flaws.{bound_clauses, first_true, list_clauses, not_inside, outside_of, rank_of_items, twice}
 use Rattle.obs_cert.specs.Numbered.{items_of}
-use Rattle.obs_cert.specs.Scopes.{is_meter_in, scope_of, touches_of}
+use Rattle.obs_cert.specs.Scopes.{is_meter_in, item_touches, scope_of}
 use Rattle.obs_cert.proofs.ClaimLemmas.{bound_rest, bound_right}
 use Rattle.obs_cert.proofs.ComponentLemmas.{meter_at, scope_same}
 use Rattle.obs_cert.proofs.OutsideLemmas.{meters_of_items, outside_is}
@@ -35,7 +35,7 @@ same_lists f g (x ∷ xs) h =
     ap (λ (ys : List ℕ). ys ++ flat_map f xs) (h x (inl refl)) ∙ ap (λ (ys : List ℕ). g x ++ ys) (same_lists f g xs (λ y i. h y (inr i)))
 
 -- as an item a meter touches what it touches as a meter
-pub meter_touches_same : (t : Tables) (m : ℕ) → m < length t.meters → touches_of t m ≡ touch_at (case_branches t) (case_meters t) m
+pub meter_touches_same : (t : Tables) (m : ℕ) → m < length t.meters → item_touches t m ≡ touch_at (case_branches t) (case_meters t) m
 meter_touches_same t m l = ap (touched (case_branches t)) (meter_is_item t m l)
 
 module _ (t : Tables) (c : ℕ) where
@@ -74,7 +74,7 @@ module _ (t : Tables) (c : ℕ) where
   pub bound_rank_right : rank_of_items t (bound_meters t c) ≡ bound_rank t c
   unfolding bound_rank
   bound_rank_right = ap (rank_at (case_vertex_count t) (case_branches t))
-      (same_lists (touches_of t) (touch_at (case_branches t) (case_meters t)) (bound_meters t c) (λ m i. meter_touches_same t m (bound_meter m i).0))
+      (same_lists (item_touches t) (touch_at (case_branches t) (case_meters t)) (bound_meters t c) (λ m i. meter_touches_same t m (bound_meter m i).0))
 
   -- the critical ones are those outside
   pub bound_outside_right : outside_of t (is_meter_in t c) (bound_meters t c) ≡ bound_outside t c

@@ -24,10 +24,10 @@ use Rattle.obs_cert.specs.Claims.{Item, Layer}
 use Rattle.obs_cert.specs.Flaws.{Listed, all_inside, listed_from, listed_layers, not_below, not_inside, outside_of, rank_of_items, runs_on, wrong_outside, wrong_rank}
 use Rattle.obs_cert.specs.Numbered.{items_of}
 use Rattle.obs_meter.specs.Lost.{is_listed}
-use Rattle.obs_cert.specs.Scopes.{is_below, is_live_item, price_at, scope_of, touches_of}
+use Rattle.obs_cert.specs.Scopes.{is_below, is_live_item, item_touches, price_at, scope_of}
 use Rattle.obs_cert.proofs.OutsideLemmas.{scope_distinct}
 use Rattle.std.specs.Cmp.Derive.{one_truth}
-use Rattle.obs_rankcut.specs.Costs.{price_of}
+use Rattle.obs_meter.specs.Costs.{price_of}
 use Rattle.obs_meter.proofs.Touched.{In-from_any, any-from_In}
 use Rattle.obs_cert.proofs.TruthLemmas.{laws}
 use Rattle.obs_cert.proofs.CompletingLemmas.{bare}
@@ -80,10 +80,10 @@ module _ (t : Tables) (v : IsValid t) where
   abbrev owned : ℕ → List ℕ
   owned to = layer_items (case_vertex_count t) (case_branches t) (case_offered t) (price_of (length t.meters) (prices_of t.candidates)) to
 
-  touched_within : (xs ys : List ℕ) → ((m : ℕ) → In m xs → In m ys) → g.rank (flat_map (touches_of t) xs) ≤ g.rank (flat_map (touches_of t) ys)
-  touched_within xs ys h = rank-within g (laws t v) (flat_map (touches_of t) xs) (flat_map (touches_of t) ys) (λ e i.
-      let w = In-flat_map_from (touches_of t) e xs i in
-      (laws t v).member (flat_map (touches_of t) ys) e (In-flat_map (touches_of t) w.0 e ys (h w.0 w.1) w.2))
+  touched_within : (xs ys : List ℕ) → ((m : ℕ) → In m xs → In m ys) → g.rank (flat_map (item_touches t) xs) ≤ g.rank (flat_map (item_touches t) ys)
+  touched_within xs ys h = rank-within g (laws t v) (flat_map (item_touches t) xs) (flat_map (item_touches t) ys) (λ e i.
+      let w = In-flat_map_from (item_touches t) e xs i in
+      (laws t v).member (flat_map (item_touches t) ys) e (In-flat_map (item_touches t) w.0 e ys (h w.0 w.1) w.2))
 
   -- its rank is that of the own items
   own_ranked : (to : ℕ) (list : List ℕ) → HasOwn to list → rank_of_items t list ≡ rank_of_items t (owned to)

@@ -12,7 +12,7 @@ use Rattle.obs_placement.specs.declared.plans.Layer.{Layer as PlacedLayer}
 use Rattle.obs_placement.specs.Layers.{added_items, inside_of, layers_of, layer_outside, layer_rank}
 use Rattle.obs_placement.specs.Taking.{is_listed_at}
 use Rattle.obs_network.specs.Network.{case_branches, case_offered, case_vertex_count, is_meter}
-use Rattle.obs_rankcut.specs.Costs.{price_of}
+use Rattle.obs_meter.specs.Costs.{price_of}
 use Rattle.obs_cert.specs.Claims.{Layer}
 use Rattle.obs_cert.specs.Scopes.{is_below, is_live_item, price_at}
 use Rattle.obs_claimed.specs.Claimed.{named_items, named_layers}

@@ -12,7 +12,7 @@ use Rattle.obs_text.specs.Names.{is_name_byte}
 use Rattle.obs_text.proofs.LineLaws.{ended_first, parts}
 use Rattle.obs_matroid.specs.Lists.{In}
 use Rattle.obs_cert.specs.inner.Forms.{HasForm, with_tabs}
-use Rattle.obs_cert.specs.Words.{Line, line_of}
+use Rattle.obs_cert.specs.Words.{Line, claim_line}
 use Rattle.obs_cert.proofs.FormLemmas.{FormsArePlain-holds, LinesHaveForms-holds}
 use Rattle.obs_cert.proofs.WordLemmas.{not_control}
 use Rattle.obs_report.specs.Lines.{line_of as printed, line_feed, tab, tabbed}
@@ -95,8 +95,8 @@ first_words word words rest plain =
 pub line_back : (word : List ℕ) (words : List (List ℕ)) (line : Line) → HasForm line (word ∷ words)
     → AreLines (printed (word ∷ words)) (line ∷ [])
 line_back word words line form = λ rest.
-    ap (map line_of) (first_words word words rest (FormsArePlain-holds line (word ∷ words) form))
-    ∙ ap (λ (o : Option Line). o ∷ map line_of (lines_of rest))
+    ap (map claim_line) (first_words word words rest (FormsArePlain-holds line (word ∷ words) form))
+    ∙ ap (λ (o : Option Line). o ∷ map claim_line (lines_of rest))
     ((LinesHaveForms-holds (word ++ tabbed words) line).1 (word ∷ words, form, tabs_between word words))
 
 -- nothing is no lines
@@ -106,8 +106,8 @@ no_lines rest = refl
 -- lines behind lines
 pub lines_then : (first second : List ℕ) (of_first of_second : List Line) → AreLines first of_first → AreLines second of_second → AreLines (first ++ second) (of_first ++ of_second)
 lines_then first second of_first of_second a b = λ rest.
-    let rest_lines = map line_of (lines_of rest) in
-    ap (λ (bytes : List ℕ). map line_of (lines_of bytes)) (append_assoc first second rest)
+    let rest_lines = map claim_line (lines_of rest) in
+    ap (λ (bytes : List ℕ). map claim_line (lines_of bytes)) (append_assoc first second rest)
     ∙ (a (second ++ rest)
     ∙ (ap (λ (lines : List (Option Line)). map Some of_first ++ lines) (b rest)
     ∙ (sym (append_assoc (map Some of_first) (map Some of_second) rest_lines)

@@ -15,7 +15,7 @@ use Rattle.obs_report.specs.Items.{branch_name, branch_word, candidate_name, met
 use Rattle.obs_report.specs.inner.Items.{IsBranchOf}
 use Rattle.obs_cert.specs.Claims.{Item}
 use Rattle.obs_cert.specs.Flaws.{unknown_branch, unknown_item, unknown_pair}
-use Rattle.obs_cert.specs.Numbered.{branch_in, branch_of, chosen_items, is_angle_item, is_known, is_known_branch, item_of, items_of, paired_items, pairs_of}
+use Rattle.obs_cert.specs.Numbered.{branch_in, branch_of, candidate_items, is_angle_item, is_known, is_known_branch, item_of, items_of, paired_items, pairs_of}
 use Rattle.obs_claimed.specs.Claimed.{named_item, named_items, named_pair}
 use Rattle.obs_claimed.proofs.ComponentNames.{has_own, place_own, position_own}
 
@@ -136,14 +136,14 @@ module _ (t : Tables) (v : IsValid t) where
 
   -- chosen candidates, as items behind the meters
   pub chosen_named : (ks : List ℕ) → ((k : ℕ) → In k ks → k < length t.candidates)
-      → items_of t (chosen_items (map (candidate_name t) ks)) ≡ map (λ (k : ℕ). length t.meters + k) ks
+      → items_of t (candidate_items (map (candidate_name t) ks)) ≡ map (λ (k : ℕ). length t.meters + k) ks
   chosen_named [] low = refl
   chosen_named (k ∷ ks) low =
-      ap (λ (x : ℕ). (length t.meters + x) ∷ items_of t (chosen_items (map (candidate_name t) ks))) (candidate_place k (low k (inl refl)))
+      ap (λ (x : ℕ). (length t.meters + x) ∷ items_of t (candidate_items (map (candidate_name t) ks))) (candidate_place k (low k (inl refl)))
       ∙ ap (λ (xs : List ℕ). (length t.meters + k) ∷ xs) (chosen_named ks (λ j i. low j (inr i)))
 
-  pub chosen_known : (ks : List ℕ) → ((k : ℕ) → In k ks → k < length t.candidates) → unknown_item t (chosen_items (map (candidate_name t) ks)) ≡ false
+  pub chosen_known : (ks : List ℕ) → ((k : ℕ) → In k ks → k < length t.candidates) → unknown_item t (candidate_items (map (candidate_name t) ks)) ≡ false
   chosen_known [] low = refl
   chosen_known (k ∷ ks) low =
-      ap (λ (b : Bool). not b || unknown_item t (chosen_items (map (candidate_name t) ks))) (candidate_known k (low k (inl refl)))
+      ap (λ (b : Bool). not b || unknown_item t (candidate_items (map (candidate_name t) ks))) (candidate_known k (low k (inl refl)))
       ∙ chosen_known ks (λ j i. low j (inr i))

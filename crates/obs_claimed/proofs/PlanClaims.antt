@@ -22,14 +22,14 @@ use Rattle.obs_placement.specs.Shown.{bare_layer}
 use Rattle.obs_placement.proofs.Growing.{AreRising, prices_rising}
 use Rattle.obs_network.specs.Network.{case_branches, case_needed, case_offered, case_vertex_count}
 use Rattle.obs_network.proofs.OfCase.{length-case_offered}
-use Rattle.obs_rankcut.specs.Costs.{price_of}
-use Rattle.obs_edit.specs.Placements.{CompletesCase, price_together}
+use Rattle.obs_meter.specs.Costs.{price_of}
+use Rattle.obs_network.specs.Completing.{CompletesCase, price_together}
 use Rattle.obs_edit.specs.Planned.{case_placed_pairs, case_placement, planned_items}
 use Rattle.obs_edit.proofs.CheapestPlans.{layers_add_up, layers_are_bounds, plans_complete, plans_have_first_pairs}
 use Rattle.obs_edit.proofs.PlanOrShortfall.{plan_is}
 use Rattle.obs_cert.specs.Claims.{CostClaim, Item, Layer, cost}
 use Rattle.obs_cert.specs.Flaws.{Holds, Listed, all_inside, cycle, listed_layers, not_below, not_inside, not_touched, outside_of_plan, runs_on, shows, twice, twice_in_plan, unknown_in_plan, unknown_item, unknown_pair, wrong_cost, wrong_length, wrong_outside, wrong_rank}
-use Rattle.obs_cert.specs.Numbered.{chosen_items, items_of, paired_items, pairs_of}
+use Rattle.obs_cert.specs.Numbered.{candidate_items, items_of, paired_items, pairs_of}
 use Rattle.obs_meter.specs.Lost.{is_listed}
 use Rattle.obs_cert.specs.Scopes.{is_below, is_of_plan, price_at}
 use Rattle.obs_cert.proofs.CompletingLemmas.{bare, same_sum, sum_is}
@@ -55,7 +55,7 @@ pub record NoFlaw (t : Tables) (c : CostClaim) : Type 0 where
   pub counts : list_any (λ (l : Listed). wrong_outside t (is_below t l.layer.to) l.list l.layer.outside) (listed_layers t c.layers) ≡ false
   pub low : list_any (λ (l : Layer). not_below l.rank l.outside (case_needed t)) c.layers ≡ false
   pub runs : not (runs_on 0 c.layers) ≡ false
-  pub costs : wrong_cost t (items_of t (chosen_items c.chosen)) c.layers c.number ≡ false
+  pub costs : wrong_cost t (items_of t (candidate_items c.chosen)) c.layers c.number ≡ false
 
 pub none_flawed : (t : Tables) (c : CostClaim) → NoFlaw t c → Holds t (cost c)
 none_flawed t c n = rw (n.known, n.inside, n.touched, n.once, n.forest, n.long, n.ranks, n.counts, n.low, n.runs, n.costs) refl
@@ -127,7 +127,7 @@ module _ (t : Tables) (v : IsValid t) where
     paired_are : items_of t (paired_items claim.pairs) ≡ items A
     paired_are = paired_named t v A within
 
-    chosen_are : items_of t (chosen_items claim.chosen) ≡ X
+    chosen_are : items_of t (candidate_items claim.chosen) ≡ X
     chosen_are = chosen_named t v chosen chosen_low
 
     listed_are : all_inside claim.layers ≡ named_items t whole.inside
@@ -138,13 +138,13 @@ module _ (t : Tables) (v : IsValid t) where
 
     all_known : unknown_in_plan t claim ≡ false
     all_known =
-        or_from (unknown_item t (chosen_items claim.chosen)) (unknown_pair t claim.pairs || unknown_item t (all_inside claim.layers)) (chosen_known t v chosen chosen_low)
+        or_from (unknown_item t (candidate_items claim.chosen)) (unknown_pair t claim.pairs || unknown_item t (all_inside claim.layers)) (chosen_known t v chosen chosen_low)
         (or_from (unknown_pair t claim.pairs) (unknown_item t (all_inside claim.layers)) (pairs_known t v A within)
         (ap (unknown_item t) listed_are ∙ (low_items whole.inside (inside_low t 0 ts)).1))
 
     all_in_scope : outside_of_plan t claim ≡ false
     all_in_scope =
-        or_from (not_inside (is_of_plan t (is_listed (items_of t (chosen_items claim.chosen)))) (items_of t (paired_items claim.pairs))) (list_any (λ (l : Listed). not_inside (is_below t l.layer.to) l.list) (listed_layers t claim.layers))
+        or_from (not_inside (is_of_plan t (is_listed (items_of t (candidate_items claim.chosen)))) (items_of t (paired_items claim.pairs))) (list_any (λ (l : Listed). not_inside (is_below t l.layer.to) l.list) (listed_layers t claim.layers))
         (ap (λ (xs : List ℕ). not_inside (is_of_plan t (is_listed xs)) (items_of t (paired_items claim.pairs))) chosen_are
         ∙ ap (not_inside (is_of_plan t (is_listed X))) paired_are
         ∙ paired_inside t chosen A first)
@@ -153,7 +153,7 @@ module _ (t : Tables) (v : IsValid t) where
     all_once : twice_in_plan t claim ≡ false
     all_once =
         let M = planned_items (length t.meters) chosen in
-        or_from (twice (items_of t (chosen_items claim.chosen))) _ (ap twice chosen_are ∙ once X (distinct-moved (length t.meters) chosen chosen_distinct))
+        or_from (twice (items_of t (candidate_items claim.chosen))) _ (ap twice chosen_are ∙ once X (distinct-moved (length t.meters) chosen chosen_distinct))
         (or_from _ (twice (items_of t (all_inside claim.layers)))
         (or_from (twice (items_of t (paired_items claim.pairs))) (twice (branches (pairs_of t claim.pairs)))
         (ap twice paired_are ∙ items_once t M A first.assigns)
@@ -185,8 +185,8 @@ module _ (t : Tables) (v : IsValid t) where
           low = are_below (case_needed t) claim.layers (λ l i. (bounds.1 l (subst (λ (ls : List BareLayer). In l ls) layers_bare i)).1);
           runs = ap not (run_from 0 claim.layers (subst (λ (ls : List BareLayer). RunOn 0 ls) (sym layers_bare) bounds.0));
           costs =
-              or_from (not (sum_by (price_at t) (items_of t (chosen_items claim.chosen)) == claim.number)) (not (sum_by (shows (case_needed t)) claim.layers == claim.number))
-              (ap not (eq-eqb (sum_by (price_at t) (items_of t (chosen_items claim.chosen))) claim.number (ap (sum_by (price_at t)) chosen_are ∙ cost_same ∙ sym cost_is)))
+              or_from (not (sum_by (price_at t) (items_of t (candidate_items claim.chosen)) == claim.number)) (not (sum_by (shows (case_needed t)) claim.layers == claim.number))
+              (ap not (eq-eqb (sum_by (price_at t) (items_of t (candidate_items claim.chosen))) claim.number (ap (sum_by (price_at t)) chosen_are ∙ cost_same ∙ sym cost_is)))
               (ap not (eq-eqb (sum_by (shows (case_needed t)) claim.layers) claim.number
               (sum_is (case_needed t) claim.layers ∙ ap (layers_sum (case_needed t)) layers_bare ∙ layers_add_up t whole v is)));
         }

@@ -31,11 +31,11 @@ use Rattle.obs_network.specs.Network.{case_branches, case_needed, case_offered, 
 use Rattle.obs_network.specs.Switched.{case_bus_count}
 use Rattle.obs_network.proofs.NeededCount.{adds_one, needed_by_buses}
 use Rattle.obs_network.proofs.OfCase.{candidates_in_limit, case_branches-are, case_bus_count-le, nodes_in_limit}
-use Rattle.obs_rankcut.specs.Costs.{price_of}
+use Rattle.obs_meter.specs.Costs.{price_of}
 use Rattle.obs_report.specs.Items.{inside_line, pair_line}
 use Rattle.obs_report.specs.Lines.{last_line}
 use Rattle.obs_report.specs.Placements.{chosen_line, cost_line, layer_line, layers_text, listed_between, placement_text, shortfall_line}
-use Rattle.obs_edit.specs.Planned.{case_placed_pairs, case_placement, pairs_in, planned_items, touches_of}
+use Rattle.obs_edit.specs.Planned.{case_placed_pairs, case_placement, listed_touches, pairs_in, planned_items}
 use Rattle.obs_edit.proofs.Planned.{length-touches_of}
 use Rattle.obs_claimed.specs.inner.Laws.{PlacementsFit}
 use Rattle.obs_claimed.proofs.LayerClaims.{inside_distinct}
@@ -132,7 +132,7 @@ module _ (t : Tables) (v : IsValid t) where
 
   pairs_few : length (case_placed_pairs t) ≤ 2 * t.most
   pairs_few =
-      let touches = touches_of (case_offered t) (planned_items (length t.meters) chosen) in
+      let touches = listed_touches (case_offered t) (planned_items (length t.meters) chosen) in
       let few = pairs_in_few (case_vertex_count t) (case_branches t) touches (case_branches-are t v) (case_placement t) in
       let same = length-touches_of (case_offered t) (planned_items (length t.meters) chosen) in
       omega (arith, few, same, offered_in_limit t v)

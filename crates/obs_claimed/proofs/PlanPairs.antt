@@ -20,17 +20,17 @@ use Rattle.obs_meter.proofs.Live.{In-live}
 use Rattle.obs_first.specs.First.{IsFirstAt}
 use Rattle.obs_network.specs.Network.{case_branches, case_needed, case_offered, case_vertex_count, is_meter}
 use Rattle.obs_network.proofs.OfCase.{case_branches-are}
-use Rattle.obs_rankcut.specs.Costs.{live_meters}
-use Rattle.obs_edit.specs.Placements.{CompletesCase}
+use Rattle.obs_meter.specs.Costs.{live_meters}
+use Rattle.obs_network.specs.Completing.{CompletesCase}
 use Rattle.obs_edit.specs.Planned.{planned_items}
 use Rattle.obs_cert.specs.Flaws.{cycle, not_inside, not_touched, rank_of_branches, twice}
 use Rattle.obs_meter.specs.Lost.{is_listed}
-use Rattle.obs_cert.specs.Scopes.{is_live_item, is_of_plan, touches_of}
+use Rattle.obs_cert.specs.Scopes.{is_live_item, is_of_plan, item_touches}
 use Rattle.obs_claimed.proofs.ClauseTests.{all_inside_scope, any_false, once}
 
 module _ (t : Tables) (M : List ℕ) (A : List Pair) (a : IsAssignmentAt (case_branches t) (case_offered t) M A) where
   pub touched_pairs : not_touched t A ≡ false
-  touched_pairs = any_false (λ (p : Pair). not (is_listed (touches_of t p.0) p.1)) A (λ p i. ap not (any-from_In (touches_of t p.0) p.1 (a.touched p i)))
+  touched_pairs = any_false (λ (p : Pair). not (is_listed (item_touches t p.0) p.1)) A (λ p i. ap not (any-from_In (item_touches t p.0) p.1 (a.touched p i)))
 
   pub items_once : twice (items A) ≡ false
   items_once = once (items A) a.different

@@ -16,7 +16,7 @@ use Rattle.obs_meter.specs.Spanned.{rank_at}
 use Rattle.obs_meter.specs.Touches.{every_item, is_live, live_items, touch_at}
 use Rattle.obs_exchange.specs.Laws.{noncritical_in}
 use Rattle.obs_rankcut.specs.Bounds.{in_scope}
-use Rattle.obs_rankcut.specs.Costs.{price_of}
+use Rattle.obs_meter.specs.Costs.{price_of}
 use Rattle.obs_placement.specs.declared.plans.Layer.{Layer}
 use Rattle.obs_placement.specs.Answer.{chosen_of, cost_of, is_chosen}
 use Rattle.obs_placement.specs.Layers.{added_items, is_price_of, layers_of, prices_above}

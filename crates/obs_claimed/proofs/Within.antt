@@ -27,14 +27,14 @@ use Rattle.obs_network.specs.Network.{case_branches, case_component_count, case_
 use Rattle.obs_network.specs.Observable.{case_live_meters}
 use Rattle.obs_network.proofs.Marked.{filtered_below}
 use Rattle.obs_network.proofs.OfCase.{case_branches-are, length-case_meters, length-case_offered}
-use Rattle.obs_rankcut.specs.Costs.{price_of}
+use Rattle.obs_meter.specs.Costs.{price_of}
 use Rattle.obs_report.specs.Items.{branch_name, branch_word, candidate_name, item_name, meter_name}
 use Rattle.obs_report.specs.inner.Items.{IsBranchOf}
 use Rattle.obs_report.specs.Meters.{component_name}
 use Rattle.obs_report.proofs.OfPairs.{meter_branch, offered_branch}
 use Rattle.obs_repair.specs.Bounds.{bound_meters, component_meters, is_critical_meter, is_meter_of}
 use Rattle.obs_edit.specs.Answers.{case_first_pairs}
-use Rattle.obs_edit.specs.Planned.{case_placed_pairs, case_placement, pairs_in, planned_items, touches_of}
+use Rattle.obs_edit.specs.Planned.{case_placed_pairs, case_placement, listed_touches, pairs_in, planned_items}
 use Rattle.obs_edit.proofs.Planned.{length-touches_of, touch-listed}
 use Rattle.obs_claimed.proofs.ComponentNames.{first_of_component}
 use Rattle.obs_claimed.proofs.NamedLemmas.{AreWithin}
@@ -99,9 +99,9 @@ bound_meters_low t c m i =
 
 -- the pairs of a placement, over what the listed items of the case touch
 pairs_in_within : (t : Tables) → IsValid t → (listed : List ℕ) (placed : Placed)
-    → AreWithin t (pairs_in (case_vertex_count t) (case_branches t) (touches_of (case_offered t) listed) placed)
+    → AreWithin t (pairs_in (case_vertex_count t) (case_branches t) (listed_touches (case_offered t) listed) placed)
 pairs_in_within t v listed (cheapest plan) p i =
-    let low = first_pairs_low (case_vertex_count t) (case_branches t) (touches_of (case_offered t) listed) (case_branches-are t v) p i in (
+    let low = first_pairs_low (case_vertex_count t) (case_branches t) (listed_touches (case_offered t) listed) (case_branches-are t v) p i in (
       omega (arith, low.0, length-touches_of (case_offered t) listed, length-case_offered t),
       offered_branch t v p.0 p.1 (touch-listed (case_offered t) listed (case_branches t) p.0 p.1 low.1).1,
     )

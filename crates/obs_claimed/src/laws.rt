@@ -1,5 +1,5 @@
 //! What is printed of a case is a certificate that holds, and fits a file.
-ghost use Rattle.obs_claimed.specs.inner.Laws.{BoundsAreLines, BoundsHold, CompleteAlike, CostAlike, LastIsLine, PlacementsAreLines, PlacementsFit, PlacementsHold, TreesAndBoundsFit, TreesAreLines, TreesHold};
+ghost use Rattle.obs_claimed.specs.inner.Laws.{BoundsAreLines, BoundsHold, LastIsLine, PlacementsAreLines, PlacementsFit, PlacementsHold, TreesAndBoundsFit, TreesAreLines, TreesHold};
 
 /// A printed text is the lines of the claim that it means, and the last line ends a certificate.
 pub fn texts_are_lines()
@@ -29,11 +29,4 @@ pub fn placements_hold()
 pub fn texts_fit()
     ensures claims { TreesAndBoundsFit }
     ensures placements { PlacementsFit }
-{}
-
-/// Items complete the meters of a case for the checker of certificates exactly where they do for
-/// the planner, and both say the same of what they cost together.
-pub fn checker_and_planner_agree()
-    ensures complete { CompleteAlike }
-    ensures cost { CostAlike }
 {}

@@ -17,7 +17,7 @@ use Rattle.obs_assign.proofs.Slotted.{some_same}
 use Rattle.obs_edit.specs.Answers.{case_first_pairs, case_islands}
 use Rattle.obs_edit.specs.inner.Sessions.{case_bound}
 use Rattle.obs_repair.specs.Bounds.{bound_meters, bound_outside, bound_rank}
-use Rattle.obs_repair.specs.inner.Kept.{AreLongest}
+use Rattle.obs_kept.specs.inner.Kept.{AreLongest}
 
 pub first_of_network : (t : Tables) (g : Graph) (ms : Meters) → g ≡ (network_of t).graph → ms ≡ (network_of t).meters → first_pairs g.vertices g.ends ms.touches ≡ case_first_pairs t
 unfolding case_first_pairs

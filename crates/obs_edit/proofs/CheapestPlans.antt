@@ -22,11 +22,12 @@ use Rattle.obs_placement.proofs.Refuting.{bound_reached, bound_refutes, none_for
 use Rattle.obs_network.specs.Network.{case_branches, case_needed, case_offered, case_vertex_count}
 use Rattle.obs_network.proofs.Observed.{most_pairs}
 use Rattle.obs_network.proofs.OfCase.{case_branches-are, length-case_offered}
-use Rattle.obs_rankcut.specs.Costs.{live_meters}
+use Rattle.obs_meter.specs.Costs.{live_meters}
 use Rattle.obs_rankcut.specs.inner.Costs.{DoAsMuch}
 use Rattle.obs_rankcut.proofs.Costs.{layers_bound_completing}
 use Rattle.obs_edit.proofs.PlanFirst.{plan_pairs_first}
-use Rattle.obs_edit.specs.Placements.{CompletesCase, IsBoundOf, LayersAddUp, LayersAreBounds, LayersBoundCosts, PlansAreCheapest, PlansComplete, PlansHaveFirstPairs, ShortfallsRefute, chosen_items, price_together}
+use Rattle.obs_network.specs.Completing.{CompletesCase, price_together}
+use Rattle.obs_edit.specs.Placements.{IsBoundOf, LayersAddUp, LayersAreBounds, LayersBoundCosts, PlannedShortfallsRefute, PlansAreCheapest, PlansComplete, PlansHaveFirstPairs, chosen_items}
 use Rattle.obs_edit.proofs.PlanOrShortfall.{lack, lacking, most, plan, planned}
 
 module _ (t : Tables) (v : IsValid t) where
@@ -109,7 +110,7 @@ pub plans_have_first_pairs : PlansHaveFirstPairs
 plans_have_first_pairs t p v e =
     plan_pairs_first (case_vertex_count t) (case_branches t) (case_offered t) (length t.meters) (case_needed t) (prices_of t.candidates) p (ok t v) (size t v) e
 
-pub shortfalls_refute : ShortfallsRefute
+pub shortfalls_refute : PlannedShortfallsRefute
 unfolding lack most
 shortfalls_refute t l v e =
     let n = case_vertex_count t in

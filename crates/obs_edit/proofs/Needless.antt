@@ -17,8 +17,9 @@ use Rattle.obs_network.specs.Observable.{IsObservableCase, case_live_meters}
 use Rattle.obs_network.proofs.Items.{meter_is_item}
 use Rattle.obs_network.proofs.Observed.{most_pairs, rho_from_observed}
 use Rattle.obs_network.proofs.OfCase.{length-case_meters, length-case_offered}
-use Rattle.obs_rankcut.specs.Costs.{live_meters}
-use Rattle.obs_edit.specs.Placements.{CompletesCase, ObservableCostsNothing}
+use Rattle.obs_meter.specs.Costs.{live_meters}
+use Rattle.obs_network.specs.Completing.{CompletesCase}
+use Rattle.obs_edit.specs.Placements.{ObservableCostsNothing}
 use Rattle.obs_edit.specs.Planned.{case_placement}
 use Rattle.obs_edit.proofs.CheapestPlans.{plans_are_cheapest, shortfalls_refute}
 

@@ -25,9 +25,9 @@ use Rattle.obs_first.proofs.Lawful.{IsNotAfter-filter, first_pairs-is}
 use Rattle.obs_placement.specs.Answer.{chosen_of, is_chosen}
 use Rattle.obs_placement.specs.Placed.{Placed, PlanValue, shortfall_of, placement_of, plan_of}
 use Rattle.obs_placement.specs.Placed.Placed.{cheapest, shortfall}
-use Rattle.obs_edit.specs.Planned.{PlanPairsAreFirst, pairs_in, placed_pairs, planned_items, touches_of}
+use Rattle.obs_edit.specs.Planned.{PlanPairsAreFirst, listed_touches, pairs_in, placed_pairs, planned_items}
 use Rattle.obs_edit.proofs.Planned.{length-touches_of}
-use Rattle.obs_rankcut.specs.Costs.{price_of}
+use Rattle.obs_meter.specs.Costs.{price_of}
 use Rattle.obs_islands.proofs.Parts.{In-from_has}
 
 -- a rising list is what the test for it leaves of a range that holds it
@@ -74,13 +74,13 @@ first-lost lost ends touches M A a =
 
 -- a first assignment of all items, where only the listed ones touch anything, is the first of these
 first-listed : (ends : List (Option Ends)) (touches : List Touch) (listed : List ℕ) → IsRising listed → ((m : ℕ) → In m listed → m < length touches)
-    → (A : List Pair) → IsFirstAt ends (touches_of touches listed) (every_item (touches_of touches listed)) A → IsFirstAt ends touches listed A
+    → (A : List Pair) → IsFirstAt ends (listed_touches touches listed) (every_item (listed_touches touches listed)) A → IsFirstAt ends touches listed A
 first-listed ends touches listed rising low A a =
     let lost : ℕ → Bool = λ m. not (has_position listed m) in
-    let all = every_item (touches_of touches listed) in
+    let all = every_item (listed_touches touches listed) in
     let kept : left_of lost all ≡ listed =
     filter_same (λ m. not (lost m)) (has_position listed) all (λ m i. not-not (has_position listed m))
-    ∙ filter-listed (length (touches_of touches listed)) 0 listed rising (λ m i. (omega arith, let l = low m i in omega (arith, l, length-touches_of touches listed))) in
+    ∙ filter-listed (length (listed_touches touches listed)) 0 listed rising (λ m i. (omega arith, let l = low m i in omega (arith, l, length-touches_of touches listed))) in
     subst (λ (M : List ℕ). IsFirstAt ends touches M A) kept (first-lost lost ends touches all A a)
 
 IsRising-after : (meters : ℕ) (xs : List ℕ) → IsRising xs → IsRising (map (λ k. meters + k) xs)
@@ -149,8 +149,8 @@ unfolding chosen
 plan_pairs_first n ends touches meters needed prices plan ok count h =
     let listed = planned_items meters (chosen_of n ends touches meters prices) in
     let same : planned_items meters plan.chosen ≡ listed = ap (planned_items meters) (plan_has_chosen n ends touches meters needed prices plan h) in
-    let pairs : placed_pairs n ends touches meters prices needed ≡ first_pairs n ends (touches_of touches listed) = ap (pairs_in n ends (touches_of touches listed)) h in
-    let first = first-listed ends touches listed (items_rise n ends touches meters prices) (items_low n ends touches meters prices count) (first_pairs n ends (touches_of touches listed))
-    (first_pairs-is n ends (touches_of touches listed) ok) in
+    let pairs : placed_pairs n ends touches meters prices needed ≡ first_pairs n ends (listed_touches touches listed) = ap (pairs_in n ends (listed_touches touches listed)) h in
+    let first = first-listed ends touches listed (items_rise n ends touches meters prices) (items_low n ends touches meters prices count) (first_pairs n ends (listed_touches touches listed))
+    (first_pairs-is n ends (listed_touches touches listed) ok) in
     subst (λ (M : List ℕ). IsFirstAt ends touches M (placed_pairs n ends touches meters prices needed)) (sym same)
     (subst (λ (A : List Pair). IsFirstAt ends touches listed A) (sym pairs) first)

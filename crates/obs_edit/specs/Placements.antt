@@ -1,6 +1,5 @@
 -- What holds of the placement of a case.
 use Rattle.std.specs.Prelude.{◌≡◌, ℕ, ◌+◌, ◌≤◌, ◌<◌, List, length, map}
-use Rattle.std.specs.List.{sum_by}
 use Rattle.obs_case.specs.Tables.{IsValid, Tables, prices_of}
 use Rattle.obs_matroid.specs.Lists.{In}
 use Rattle.obs_matroid.specs.Placement.{IsShown, Layer, RunOn, layers_sum}
@@ -10,19 +9,11 @@ use Rattle.obs_first.specs.First.{IsFirstAt}
 use Rattle.obs_placement.specs.Placed.{ShortfallValue, PlanValue}
 use Rattle.obs_placement.specs.Placed.Placed.{cheapest, shortfall}
 use Rattle.obs_placement.specs.Shown.{bare_layer}
+use Rattle.obs_network.specs.Completing.{CompletesCase, price_together}
 use Rattle.obs_network.specs.Network.{case_branches, case_needed, case_offered, case_vertex_count}
 use Rattle.obs_network.specs.Observable.{IsObservableCase}
-use Rattle.obs_rankcut.specs.Costs.{Completes, live_candidates, live_meters, price_of}
+use Rattle.obs_meter.specs.Costs.{live_candidates, live_meters, price_of}
 use Rattle.obs_edit.specs.Planned.{case_placed_pairs, case_placement, planned_items}
-
--- candidates complete the meters of a case: with these, the live ones have an assignment that is as long as the case needs. An item
--- is a meter, or a candidate, whose number then stands behind those of the meters
-abbrev pub CompletesCase : Tables → List ℕ → Type 0
-CompletesCase t X = Completes (case_branches t) (case_offered t) (length t.meters) (case_needed t) X
-
--- what items cost together: meters nothing
-abbrev pub price_together : Tables → List ℕ → ℕ
-price_together t X = sum_by (price_of (length t.meters) (prices_of t.candidates)) X
 
 -- the items that a plan chooses
 abbrev pub chosen_items : Tables → PlanValue → List ℕ
@@ -72,6 +63,6 @@ LayersAddUp = (t : Tables) (plan : PlanValue) → IsValid t → case_placement t
     layers_sum (case_needed t) (map bare_layer plan.layers) ≡ plan.cost
 
 -- the two numbers of a shortfall add up to less than the case needs, and no candidates complete the meters
-abbrev pub ShortfallsRefute : Type 0
-ShortfallsRefute = (t : Tables) (lack : ShortfallValue) → IsValid t → case_placement t ≡ shortfall lack →
+abbrev pub PlannedShortfallsRefute : Type 0
+PlannedShortfallsRefute = (t : Tables) (lack : ShortfallValue) → IsValid t → case_placement t ≡ shortfall lack →
     (lack.rank + lack.outside < case_needed t) × ((X : List ℕ) → CompletesCase t X → ⊥)

@@ -19,8 +19,8 @@ abbrev pub planned_items : ℕ → List ℕ → List ℕ
 planned_items meters chosen = range_with_len 0 meters ++ map (λ k. meters + k) chosen
 
 -- what each item touches, where the items that aren't in the list touch nothing
-abbrev pub touches_of : List Touch → List ℕ → List Touch
-touches_of touches listed = losing (λ m. not (has_position listed m)) touches
+abbrev pub listed_touches : List Touch → List ℕ → List Touch
+listed_touches touches listed = losing (λ m. not (has_position listed m)) touches
 
 -- the pairs of a placement, over what its items touch: the first assignment for a plan, and none for a shortfall
 abbrev pub pairs_in : ℕ → List (Option Ends) → List Touch → Placed → List Pair
@@ -30,7 +30,7 @@ pairs_in n ends touches (shortfall lack) = []
 -- the pairs of the placement of what is offered; the graph has n vertices
 abbrev pub placed_pairs : ℕ → List (Option Ends) → List Touch → ℕ → List ℕ → ℕ → List Pair
 placed_pairs n ends touches meters prices needed =
-    pairs_in n ends (touches_of touches (planned_items meters (chosen_of n ends touches meters prices)))
+    pairs_in n ends (listed_touches touches (planned_items meters (chosen_of n ends touches meters prices)))
     (placement_of n ends touches meters prices needed)
 
 -- they are, for a plan, the first assignment of the meters and then the chosen candidates, over what is offered

@@ -2,7 +2,8 @@
 ghost use Rattle.std.specs.Prelude.{◌≡◌};
 ghost use Rattle.obs_assign.specs.inner.Assignment.{pairs};
 ghost use Rattle.obs_edit.specs.Answers.{case_first_pairs, case_islands};
-ghost use Rattle.obs_repair.specs.inner.Kept.{AreLongest, HasRoom, case_room};
+ghost use Rattle.obs_kept.specs.inner.Kept.{AreLongest};
+ghost use Rattle.obs_repair.specs.inner.Kept.{HasRoom, case_room};
 
 use obs_assign::{Assignment, Steps};
 use obs_exchange::Work;

@@ -1,6 +1,6 @@
 // The laws of what a session finds.
 ghost use Rattle.obs_edit.specs.Laws.{CandidatesBetweenIslandsRaise, IslandsAreNamed, IslandsBeginWithBuses, IslandsLieInComponents, IslandsTellApart, ObservableIsIsland, TreesAreFirst, TreesAreWhole, TreesSpan, TreesStandAlone};
-ghost use Rattle.obs_edit.specs.Placements.{LayersAddUp, LayersAreBounds, LayersBoundCosts, ObservableCostsNothing, PlansAreCheapest, PlansComplete, PlansHaveFirstPairs, ShortfallsRefute};
+ghost use Rattle.obs_edit.specs.Placements.{LayersAddUp, LayersAreBounds, LayersBoundCosts, ObservableCostsNothing, PlannedShortfallsRefute, PlansAreCheapest, PlansComplete, PlansHaveFirstPairs};
 ghost use Rattle.obs_edit.specs.Planned.{PlanPairsAreFirst};
 
 /// The pairs of a plan are the first assignment of its items, the meters and then the chosen candidates: no assignment
@@ -59,5 +59,5 @@ pub fn layers_show_the_cost()
 
 /// The bound of a shortfall is below what the case needs, and no candidates complete its meters.
 pub fn shortfalls_refute()
-    ensures refuted { ShortfallsRefute }
+    ensures refuted { PlannedShortfallsRefute }
 {}

@@ -1,9 +1,9 @@
 //! Sessions: a case, its network, a longest assignment of its live meters, and the answers to it.
 #![tactic(auto)]
 
-mod answers;
+mod answer_room;
+mod applied;
 mod asks;
-mod edit;
 mod finding;
 mod hand;
 pub mod laws;
@@ -12,7 +12,7 @@ mod placing;
 mod seen;
 mod session;
 
-pub use edit::{Applied, Done};
+pub use applied::{Applied, Done};
 pub use obs_repair::{Edit, NoMemory, Refusal};
 pub use seen::{Placed, Seen};
 pub use session::{Session, State};

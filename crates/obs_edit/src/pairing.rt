@@ -5,7 +5,7 @@ ghost use Rattle.obs_meter.specs.inner.Touches.{AreInRange};
 ghost use Rattle.obs_assign.specs.inner.Assignment.{Fits, HasRoomOf, StandsOver, pairs as pairs_at};
 ghost use Rattle.obs_exchange.specs.inner.Laws.{IsThawed};
 ghost use Rattle.obs_first.specs.First.{first_pairs};
-ghost use Rattle.obs_edit.specs.Planned.{pairs_in, planned_items, touches_of};
+ghost use Rattle.obs_edit.specs.Planned.{listed_touches, pairs_in, planned_items};
 ghost use Rattle.obs_edit.specs.inner.Planned.{new_paired};
 
 use obs_assign::{Assignment, Steps};
@@ -59,7 +59,7 @@ impl Drop for Pairing {
 fn list_plan(offered: &Meters, meters: u32, chosen: &[u32], items: &mut Meters)
     requires most { length offered.now.touches ≤ items.old.most }
     requires chosen { All (λ k. meters + k < length offered.now.touches) chosen.now }
-    ensures planned { items.new.touches ≡ touches_of offered.now.touches (planned_items meters chosen.now) }
+    ensures planned { items.new.touches ≡ listed_touches offered.now.touches (planned_items meters chosen.now) }
     ensures same_most { items.new.most ≡ items.old.most }
 {
     items.refill(offered.touches());
@@ -223,7 +223,7 @@ fn pair_plan<L: Ledger>(
     requires room { HasRoomFor exchange.old.sizes g.now offered.now.touches }
     requires fits { Fits pairs.old g.now offered.now.touches }
     ensures pairs { pairs_at pairs.new ≡ pairs_in g.now.vertices g.now.ends
-        (touches_of offered.now.touches (planned_items meters work.now.chosen)) work.now.placed }
+        (listed_touches offered.now.touches (planned_items meters work.now.chosen)) work.now.placed }
     ensures stands { StandsOver pairs.new g.now offered.now.touches }
     ensures same_most { items.new.most ≡ items.old.most }
     ensures same_room { HasRoomOf pairs.old pairs.new }
@@ -274,7 +274,7 @@ impl Pairing {
         requires one_each { length work.now.pairs.slots ≡ length offered.now.touches }
         requires room { HasRoomFor self.old.sizes g.now offered.now.touches }
         ensures pairs { pairs_at self.new.pairs ≡ pairs_in g.now.vertices g.now.ends
-            (touches_of offered.now.touches (planned_items meters work.now.chosen)) work.now.placed }
+            (listed_touches offered.now.touches (planned_items meters work.now.chosen)) work.now.placed }
         ensures stands { StandsOver self.new.pairs g.now offered.now.touches }
         ensures same_sizes { self.new.sizes ≡ self.old.sizes }
     {

@@ -37,7 +37,7 @@ pub struct Placed<'a> {
 }
 
 impl Session {
-    ghost use Rattle.obs_edit.specs.inner.Lending.{GivenBack};
+    ghost use Rattle.obs_edit.specs.inner.Lending.{SessionGivenBack};
 
     /// The first assignment of the present case's meters, with nothing frozen.
     pub fn first_pairs<L: Ledger>(&mut self, steps: &mut Steps<L>) -> Seen<'_, &Assignment>
@@ -46,7 +46,7 @@ impl Session {
         ensures found { pairs result.found.now ≡ case_first_pairs self.old.tables }
         ensures stands { StandsOver result.found.now (network_of self.old.tables).graph (case_meters self.old.tables) }
         ensures thawed { IsThawed result.found.now }
-        ensures* given_back { sem 𝓛 (GivenBack self.entry (λ s. (s.tables ≡ self.old.tables) × (s.offered ≡ self.old.offered)
+        ensures* given_back { sem 𝓛 (SessionGivenBack self.entry (λ s. (s.tables ≡ self.old.tables) × (s.offered ≡ self.old.offered)
             × (s.at_hand ≡ record self.old.at_hand { first = true }))) }
     {
         self.find_first(steps);
@@ -70,7 +70,7 @@ impl Session {
         ensures rank { result.found.rank ≡ bound_rank self.old.tables c }
         ensures outside { result.found.outside ≡ bound_outside self.old.tables c }
         ensures needed { result.found.needed ≡ case_need self.old.tables c }
-        ensures* given_back { sem 𝓛 (GivenBack self.entry (λ s. (s.tables ≡ self.old.tables) × (s.offered ≡ self.old.offered)
+        ensures* given_back { sem 𝓛 (SessionGivenBack self.entry (λ s. (s.tables ≡ self.old.tables) × (s.offered ≡ self.old.offered)
             × (s.pairs ≡ self.old.pairs) × (s.at_hand ≡ record self.old.at_hand { critical = true; bound = Some c }))) }
     {
         self.find_critical(steps);
@@ -88,7 +88,7 @@ impl Session {
         ensures case { result.case.now ≡ self.old.tables }
         ensures network { result.network.now ≡ network_of self.old.tables }
         ensures found { result.found.now ≡ case_critical_meters self.old.tables }
-        ensures* given_back { sem 𝓛 (GivenBack self.entry (λ s. (s.tables ≡ self.old.tables) × (s.offered ≡ self.old.offered)
+        ensures* given_back { sem 𝓛 (SessionGivenBack self.entry (λ s. (s.tables ≡ self.old.tables) × (s.offered ≡ self.old.offered)
             × (s.pairs ≡ self.old.pairs) × (s.at_hand ≡ record self.old.at_hand { critical = true }))) }
     {
         self.find_critical(steps);
@@ -105,7 +105,7 @@ impl Session {
         ensures case { result.case.now ≡ self.old.tables }
         ensures network { result.network.now ≡ network_of self.old.tables }
         ensures found { result.found.now ≡ case_islands self.old.tables }
-        ensures* given_back { sem 𝓛 (GivenBack self.entry (λ s. (s.tables ≡ self.old.tables) × (s.offered ≡ self.old.offered)
+        ensures* given_back { sem 𝓛 (SessionGivenBack self.entry (λ s. (s.tables ≡ self.old.tables) × (s.offered ≡ self.old.offered)
             × (s.pairs ≡ self.old.pairs) × (s.at_hand ≡ record self.old.at_hand { islands = true }))) }
     {
         self.find_islands(steps);
@@ -127,7 +127,7 @@ impl Session {
         ensures pairs { pairs result.found.pairs.now ≡ case_placed_pairs self.old.tables }
         ensures stands { StandsOver result.found.pairs.now (network_of self.old.tables).graph
             (case_offered self.old.tables) }
-        ensures* given_back { sem 𝓛 (GivenBack self.entry (λ s. (s.tables ≡ self.old.tables) × (s.offered ≡ self.old.offered)
+        ensures* given_back { sem 𝓛 (SessionGivenBack self.entry (λ s. (s.tables ≡ self.old.tables) × (s.offered ≡ self.old.offered)
             × (s.pairs ≡ self.old.pairs) × (s.at_hand ≡ record self.old.at_hand { placed = true }))) }
     {
         self.find_placement(steps);

@@ -8,10 +8,10 @@ ghost use Rattle.obs_repair.specs.inner.Edits.{HasRow};
 ghost use Rattle.obs_edit.specs.inner.Edits.{IsEdited};
 ghost use Rattle.obs_repair.specs.Lines.{meant_of};
 ghost use Rattle.obs_edit.specs.inner.Lines.{IsDone, searches_of};
-ghost use Rattle.obs_repair.specs.inner.Kept.{AreLongest};
+ghost use Rattle.obs_kept.specs.inner.Kept.{AreLongest};
 
-use crate::answers::{Answers, make_answers};
-use crate::edit::{Applied, Done};
+use crate::answer_room::{Answers, make_answers};
+use crate::applied::{Applied, Done};
 use crate::hand::AtHand;
 use crate::placing::Placing;
 use obs_assign::{Assignment, Steps};
@@ -52,7 +52,8 @@ impl Model for Session {
     ghost use Rattle.obs_network.specs.Network.{network_of};
     ghost use Rattle.obs_network.specs.Observable.{case_rank};
     ghost use Rattle.obs_repair.specs.inner.Parts.{BoundsWhereKnown, HasRoomForParts};
-    ghost use Rattle.obs_repair.specs.inner.Kept.{AreLongest, HasRoom};
+    ghost use Rattle.obs_kept.specs.inner.Kept.{AreLongest};
+    ghost use Rattle.obs_repair.specs.inner.Kept.{HasRoom};
     ghost use Rattle.obs_edit.specs.Sessions.{Session};
     ghost use Rattle.obs_edit.specs.inner.Sessions.{AreAnswers, HasRoomToAnswer, IsPlacing};
 

@@ -32,7 +32,7 @@ use Rattle.obs_report.specs.Trees.{tree_line, tree_text}
 use Rattle.obs_report.proofs.Printing.{and_then_none}
 use Rattle.obs_repair.specs.Bounds.{bound_meters, bound_outside, bound_rank, case_critical_meters, component_rank}
 use Rattle.obs_edit.specs.Answers.{case_first_pairs, case_islands}
-use Rattle.obs_repair.specs.inner.Kept.{AreLongest}
+use Rattle.obs_kept.specs.inner.Kept.{AreLongest}
 use Rattle.obs_repair.proofs.Enough.{live_pairs}
 use Rattle.obs_repair.proofs.Tight.{observable-from, observable-to}
 use Rattle.obs_engine.specs.Asks.{block_text, blocks_text, bound_claim, claims_text, component_claim, text_if, tree_claim}

@@ -20,7 +20,7 @@ use Rattle.obs_placement.specs.Placed.Placed.{cheapest, shortfall}
 use Rattle.obs_network.specs.Network.{case_branches, case_item_count, case_needed, case_offered, case_vertex_count}
 use Rattle.obs_network.proofs.Marked.{filtered_below}
 use Rattle.obs_network.proofs.OfCase.{length-case_offered}
-use Rattle.obs_rankcut.specs.Costs.{price_of}
+use Rattle.obs_meter.specs.Costs.{price_of}
 use Rattle.obs_report.specs.Placements.{placement_text}
 use Rattle.obs_report.specs.inner.Placements.{AreCountsOf, IsWithin}
 use Rattle.obs_edit.specs.Planned.{case_placed_pairs, case_placement}

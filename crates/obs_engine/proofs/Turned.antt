@@ -18,7 +18,7 @@ use Rattle.obs_report.specs.Counts.{counts_text}
 use Rattle.obs_report.specs.Totals.{totals_text, trial_line}
 use Rattle.obs_network.specs.Observable.{IsRankOf, case_rank}
 use Rattle.obs_repair.specs.inner.Edits.{IsRepaired}
-use Rattle.obs_repair.specs.inner.Kept.{AreLongest}
+use Rattle.obs_kept.specs.inner.Kept.{AreLongest}
 use Rattle.obs_edit.specs.Sessions.{Session}
 use Rattle.obs_engine.specs.Trials.{dip_meters, dips_of, edits_of, is_dip, is_first_of_island, island_count, trial_text}
 use Rattle.obs_engine.specs.inner.Trials.{AreInService}

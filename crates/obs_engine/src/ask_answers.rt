@@ -4,8 +4,8 @@ ghost use Rattle.obs_script.specs.declared.command.Ask.TheVariants.{Place};
 ghost use Rattle.obs_engine.specs.Asks.{ask_reply, ask_status, report_status};
 ghost use Rattle.obs_engine.specs.inner.Replies.{IsReplied};
 
-use crate::asks::print_ask;
 use crate::judged::printed_status;
+use crate::print_asks::print_ask;
 use obs_assign::Steps;
 use obs_edit::Session;
 use obs_files::Status;

@@ -2,16 +2,16 @@
 #![tactic(auto)]
 
 mod ask_answers;
-mod asks;
 mod blocks;
-mod claims;
 mod command;
 mod input;
 mod judged;
 pub mod laws;
 mod line_answers;
-mod outages;
 mod pair_reply;
+mod print_asks;
+mod print_claims;
+mod print_outages;
 mod program;
 mod refused;
 mod serving;

@@ -8,7 +8,7 @@ ghost use Rattle.obs_repair.specs.Lines.{meant_of};
 ghost use Rattle.obs_engine.specs.Lines.{answer_to, case_after, ended_after, line_case, line_text, lines_case, lines_text};
 ghost use Rattle.obs_engine.specs.inner.Lines.{open_after};
 
-use crate::asks::print_ask;
+use crate::print_asks::print_ask;
 use obs_assign::Steps;
 use obs_edit::{Done, Refusal, Session};
 use obs_io::{Failed, Sink};

@@ -4,8 +4,8 @@ ghost use Rattle.obs_engine.specs.inner.Replies.{IsReplied};
 ghost use Rattle.obs_engine.specs.Studies.{study_reply};
 ghost use Rattle.obs_engine.specs.Summaries.{IsWholeAnswer, summary_of};
 
-use crate::outages::answer_outages;
 use crate::pair_reply::answer_pairs;
+use crate::print_outages::answer_outages;
 use crate::station_reply::answer_stations;
 use obs_assign::Steps;
 use obs_case::Case;

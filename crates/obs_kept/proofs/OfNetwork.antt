@@ -14,10 +14,10 @@ use Rattle.obs_network.specs.Network.{Network, case_branches, case_meters, case_
 use Rattle.obs_network.specs.inner.Network.{case_position_count}
 use Rattle.obs_network.proofs.Observed.{most_pairs}
 use Rattle.obs_network.proofs.OfCase.{case_branches-are, case_vertex_count-le, length-case_branches, length-case_meters}
-use Rattle.obs_kept.specs.inner.Kept.{AreLongest, HasRoom, network_sizes}
+use Rattle.obs_kept.specs.inner.Kept.{AreLongest, HasRoomOver, network_sizes}
 
 -- the room for a case's pairs is enough for its network
-fits_case : (t : Tables) (a : Assignment) (w : Work) → HasRoom (network_of t) a w → Fits a (network_of t).graph (case_meters t)
+fits_case : (t : Tables) (a : Assignment) (w : Work) → HasRoomOver (network_of t) a w → Fits a (network_of t).graph (case_meters t)
 fits_case t a w r = record {
   meters = let p = r.pair_meters in omega (arith, p, length-case_meters t);
   vertices = let p = r.pair_vertices in omega (arith, p, case_vertex_count-le t);
@@ -50,12 +50,12 @@ module _ (n : Network) (t : Tables) (same : n ≡ network_of t) (g : Graph) (is_
   to_case : (P : Graph → Meters → Type 0) → P g ms → P (network_of t).graph (network_of t).meters
   to_case P p = subst (λ (h : Graph). P h (network_of t).meters) graph_is (subst (λ (i : Meters). P g i) meters_are p)
 
-  pub fits_network : (a : Assignment) (w : Work) → HasRoom n a w → Fits a g ms.touches
-  fits_network a w r = from_case (λ h i. Fits a h i.touches) (fits_case t a w (subst (λ (x : Network). HasRoom x a w) same r))
+  pub fits_network : (a : Assignment) (w : Work) → HasRoomOver n a w → Fits a g ms.touches
+  fits_network a w r = from_case (λ h i. Fits a h i.touches) (fits_case t a w (subst (λ (x : Network). HasRoomOver x a w) same r))
 
-  pub room_network : (a : Assignment) (w : Work) → HasRoom n a w → HasRoomFor w.sizes g ms.touches
+  pub room_network : (a : Assignment) (w : Work) → HasRoomOver n a w → HasRoomFor w.sizes g ms.touches
   room_network a w r =
-      from_case (λ h i. HasRoomFor w.sizes h i.touches) (room_case t w.sizes (subst (λ (x : Network). HasRoom x a w) same r).work)
+      from_case (λ h i. HasRoomFor w.sizes h i.touches) (room_case t w.sizes (subst (λ (x : Network). HasRoomOver x a w) same r).work)
 
   -- the branches lie between the vertices
   pub branches_network : IsValid t → AreBranches g.vertices g.ends
@@ -70,7 +70,7 @@ module _ (n : Network) (t : Tables) (same : n ≡ network_of t) (g : Graph) (is_
   longest_network a h = to_case (λ h i. IsLongest h i.touches a) h
 
 -- the room stays where the sizes do
-pub room_stays : (n : Network) (a b : Assignment) (w x : Work) → HasRoom n a w → HasRoomOf a b → x.sizes ≡ w.sizes → HasRoom n b x
+pub room_stays : (n : Network) (a b : Assignment) (w x : Work) → HasRoomOver n a w → HasRoomOf a b → x.sizes ≡ w.sizes → HasRoomOver n b x
 room_stays n a b w x r s e = record {
   pair_meters = s.meters ∙ r.pair_meters;
   pair_branches = s.branches ∙ r.pair_branches;
@@ -80,11 +80,11 @@ room_stays n a b w x r s e = record {
 
 -- what is made for the numbers of rows of a case has room for its pairs
 pub room_made : (t : Tables) (n : Network) (a : Assignment) (w : Work) (m p v : ℕ) → n ≡ network_of t → m ≡ length t.meters → p ≡ case_position_count t → v ≡ case_vertex_room t
-    → a.most_meters ≡ m → a.forest.most_branches ≡ p → a.forest.most_vertices ≡ v → w.sizes ≡ record { meters = m; branches = p; vertices = v } → HasRoom n a w
+    → a.most_meters ≡ m → a.forest.most_branches ≡ p → a.forest.most_vertices ≡ v → w.sizes ≡ record { meters = m; branches = p; vertices = v } → HasRoomOver n a w
 room_made t n a w m p v same im ip iv am ab av ws =
     let positions : p ≡ length (case_branches t) = ip ∙ sym (length-case_branches t) in
     let of : ℕ → ℕ → ℕ → Sizes = λ x y z. record { meters = x; branches = y; vertices = z } in
-    subst (λ (x : Network). HasRoom x a w) (sym same)
+    subst (λ (x : Network). HasRoomOver x a w) (sym same)
     (record {
       pair_meters = am ∙ im;
       pair_branches = ab ∙ positions;

@@ -2,7 +2,7 @@
 ghost use Rattle.std.specs.Prelude.{◌≡◌, IfOk};
 ghost use Rattle.obs_case.specs.Tables.{IsValid};
 ghost use Rattle.obs_network.specs.Network.{network_of};
-ghost use Rattle.obs_kept.specs.inner.Kept.{AreLongest, HasRoom};
+ghost use Rattle.obs_kept.specs.inner.Kept.{AreLongest, HasRoomOver};
 
 use crate::memory::NoMemory;
 use obs_assign::{Assignment, Steps};
@@ -34,7 +34,7 @@ impl Kept {
     /// No pair, with room for the pairs of a case and their searches.
     fn with_room(alloc: Global, case: &Case) -> Result<Kept, NoMemory>
         ensures network { IfOk result (λ k. k.network ≡ network_of case.now) }
-        ensures room { IfOk result (λ k. HasRoom k.network k.pairs k.work) }
+        ensures room { IfOk result (λ k. HasRoomOver k.network k.pairs k.work) }
         ensures valid { IfOk result (λ _. IsValid case.now) }
     {
         let network = Network::make(alloc, case)?;
@@ -58,7 +58,7 @@ impl Kept {
     ) -> Result<Kept, NoMemory>
         ensures network { IfOk result (λ k. k.network ≡ network_of case.now) }
         ensures longest { IfOk result (λ k. AreLongest case.now k.pairs) }
-        ensures room { IfOk result (λ k. HasRoom k.network k.pairs k.work) }
+        ensures room { IfOk result (λ k. HasRoomOver k.network k.pairs k.work) }
     {
         let mut kept = Kept::with_room(alloc, case)?;
         fill(

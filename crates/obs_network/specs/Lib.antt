@@ -7,4 +7,5 @@ pub mod Network
 pub mod Located
 pub mod Parted
 pub mod Observable
+pub mod Completing
 pub mod inner

@@ -5,6 +5,7 @@ mod alone;
 mod angles;
 mod bridges;
 mod components;
+mod descent;
 mod following;
 pub mod laws;
 mod live;
@@ -18,6 +19,7 @@ mod rebuild;
 mod refreshing;
 mod room;
 mod sides;
+mod stretches;
 mod switched;
 mod touching;
 

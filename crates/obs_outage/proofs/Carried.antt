@@ -18,7 +18,7 @@ use Rattle.obs_exchange.specs.inner.Found.{Work}
 use Rattle.obs_exchange.specs.inner.Lengthened.{HasLengthened}
 use Rattle.obs_exchange.specs.inner.Longest.{IsMost}
 use Rattle.obs_network.specs.Network.{Network, case_branches, case_meters, case_needed, network_of}
-use Rattle.obs_kept.specs.inner.Kept.{AreLongest, HasRoom}
+use Rattle.obs_kept.specs.inner.Kept.{AreLongest, HasRoomOver}
 use Rattle.obs_network.specs.Observable.{case_rank}
 use Rattle.obs_outage.specs.declared.outages.Outage.{Outage}
 use Rattle.obs_network.specs.Parted.{outage_case}
@@ -41,7 +41,7 @@ quiet_by g touches a b c searches most before after ok retained stands whole tur
     (omega (arith, ticks, none), ap (λ (x : Assignment). x.turns) (grown.none none) ∙ turns)
 
 -- the room for the pairs of a case is that for those of its outage cases
-pub room_out : (t : Tables) (e : ℕ) → IsValid t → (a : Assignment) (w : Work) → HasRoom (network_of t) a w → HasRoom (network_of (outage_case t e)) a w
+pub room_out : (t : Tables) (e : ℕ) → IsValid t → (a : Assignment) (w : Work) → HasRoomOver (network_of t) a w → HasRoomOver (network_of (outage_case t e)) a w
 room_out t e v a w r = record {
   pair_meters = r.pair_meters;
   pair_branches = r.pair_branches ∙ sym (as_many_positions t v e);
@@ -49,7 +49,7 @@ room_out t e v a w r = record {
   work = r.work ∙ ap (λ (n : ℕ). record { meters = length t.meters; branches = n; vertices = (network_of t).graph.most_vertices }) (sym (as_many_positions t v e));
 }
 
-pub room_back : (t : Tables) (e : ℕ) → IsValid t → (a : Assignment) (w : Work) → HasRoom (network_of (outage_case t e)) a w → HasRoom (network_of t) a w
+pub room_back : (t : Tables) (e : ℕ) → IsValid t → (a : Assignment) (w : Work) → HasRoomOver (network_of (outage_case t e)) a w → HasRoomOver (network_of t) a w
 room_back t e v a w r = record {
   pair_meters = r.pair_meters;
   pair_branches = r.pair_branches ∙ as_many_positions t v e;
@@ -62,8 +62,8 @@ module _ (t : Tables) (v : IsValid t) (e : ℕ) (a : Assignment) (h : AreLongest
   pub rows_out : n1.rows ≡ n.rows
   rows_out = ap (λ (x : Network). x.rows) out ∙ same_rows t v e ∙ sym (ap (λ (x : Network). x.rows) net)
 
-  pub has_room_out : (w : Work) → HasRoom n a w → HasRoom n1 a w
-  has_room_out w r = subst (λ (x : Network). HasRoom x a w) (sym out) (room_out t e v a w (subst (λ (x : Network). HasRoom x a w) net r))
+  pub has_room_out : (w : Work) → HasRoomOver n a w → HasRoomOver n1 a w
+  has_room_out w r = subst (λ (x : Network). HasRoomOver x a w) (sym out) (room_out t e v a w (subst (λ (x : Network). HasRoomOver x a w) net r))
 
   pub meters_out : length n1.meters.touches ≡ length a.slots
   meters_out = ap (λ (x : Network). length x.meters.touches) out ∙ as_many_meters t v e ∙ h.stands.meters
@@ -92,8 +92,8 @@ module _ (t : Tables) (v : IsValid t) (e : ℕ) (a : Assignment) (h : AreLongest
 
   -- the pairs of the outage case
   module _ (b : Assignment) (j : AreLongest (outage_case t e) b) where
-    pub has_room_home : (w : Work) → HasRoom n1 b w → HasRoom n b w
-    has_room_home w r = subst (λ (x : Network). HasRoom x b w) (sym net) (room_back t e v b w (subst (λ (x : Network). HasRoom x b w) out r))
+    pub has_room_home : (w : Work) → HasRoomOver n1 b w → HasRoomOver n b w
+    has_room_home w r = subst (λ (x : Network). HasRoomOver x b w) (sym net) (room_back t e v b w (subst (λ (x : Network). HasRoomOver x b w) out r))
 
     pub meters_home : length n.meters.touches ≡ length b.slots
     meters_home = ap (λ (x : Network). length x.meters.touches) net ∙ sym (as_many_meters t v e) ∙ j.stands.meters

@@ -5,7 +5,7 @@ use Rattle.obs_case.specs.Tables.{Tables}
 use Rattle.obs_meter.specs.inner.Sizes.{HasRoomFor}
 use Rattle.obs_network.specs.Network.{Network}
 use Rattle.obs_network.specs.inner.Sides.{Sides}
-use Rattle.obs_kept.specs.inner.Kept.{AreLongest, AreLongestOver, HasRoom, network_sizes}
+use Rattle.obs_kept.specs.inner.Kept.{AreLongest, AreLongestOver, HasRoomOver, network_sizes}
 use Rattle.obs_kept.specs.declared.kept.Kept.{Kept}
 use Rattle.obs_outage.specs.inner.Ready.{IsBasisOf, IsReady}
 use Rattle.obs_outage.specs.inner.Sparing.{Spared}
@@ -15,10 +15,10 @@ use Rattle.obs_outage.specs.declared.basis.Basis.{Basis}
 use Rattle.obs_outage.specs.declared.rowless.Without.{Without}
 
 -- with other longest pairs over the network
-pub ready_again : (k : Kept) (w : Without) (s : Spared) → IsReady k w s → (k1 : Kept) (w1 : Without) → k1.network ≡ k.network → AreLongestOver k.network k1.pairs → HasRoom k.network k1.pairs k1.work → IsCopy k.network w1 → IsReady k1 w1 s
+pub ready_again : (k : Kept) (w : Without) (s : Spared) → IsReady k w s → (k1 : Kept) (w1 : Without) → k1.network ≡ k.network → AreLongestOver k.network k1.pairs → HasRoomOver k.network k1.pairs k1.work → IsCopy k.network w1 → IsReady k1 w1 s
 ready_again k w s h k1 w1 same longest room copy = record {
   longest = subst (λ (x : Network). AreLongestOver x k1.pairs) (sym same) longest;
-  room = subst (λ (x : Network). HasRoom x k1.pairs k1.work) (sym same) room;
+  room = subst (λ (x : Network). HasRoomOver x k1.pairs k1.work) (sym same) room;
   copy = subst (λ (x : Network). IsCopy x w1) (sym same) copy;
   fits = subst (λ (x : Network). HasRoomFor (network_sizes x) x.graph x.meters.touches) (sym same) h.fits;
   branches = subst (λ (x : Network). AreBranches x.graph.vertices x.graph.ends) (sym same) h.branches;

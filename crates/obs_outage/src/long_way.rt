@@ -8,7 +8,7 @@ ghost use Rattle.obs_assign.specs.inner.Assignment.{pairs as pairs_at};
 ghost use Rattle.obs_assign.specs.inner.Still.{still};
 ghost use Rattle.obs_exchange.specs.inner.Longest.{IsMost};
 ghost use Rattle.obs_network.specs.Network.{network_of};
-ghost use Rattle.obs_kept.specs.inner.Kept.{AreLongest, HasRoom};
+ghost use Rattle.obs_kept.specs.inner.Kept.{AreLongest, HasRoomOver};
 ghost use Rattle.obs_outage.specs.Outages.{outage_of, outage_rows};
 ghost use Rattle.obs_outage.specs.inner.Outages.{AllStand};
 ghost use Rattle.obs_outage.specs.inner.Ready.{IsKeptOf};
@@ -33,12 +33,12 @@ fn carry<L: Ledger>(
 )
     requires valid { IsValid case.now }
     requires network { network.now ≡ network_of case.now }
-    requires room { HasRoom network.now pairs.old work.old }
+    requires room { HasRoomOver network.now pairs.old work.old }
     requires meters { length network.now.meters.touches ≡ length pairs.old.slots }
     requires positions { length network.now.graph.ends ≡ length pairs.old.forest.held }
     requires most { IsMost network.now.graph.ends network.now.meters.touches most }
     ensures longest { AreLongest case.now pairs.new }
-    ensures room { HasRoom network.now pairs.new work.new }
+    ensures room { HasRoomOver network.now pairs.new work.new }
     ensures quiet { IsForestAt network.now.graph.ends
         (branches (still network.now.graph.ends network.now.meters.touches (pairs_at pairs.old))) →
         most ≤ length (still network.now.graph.ends network.now.meters.touches (pairs_at pairs.old)) →

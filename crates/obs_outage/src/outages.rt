@@ -68,7 +68,7 @@ impl Drop for Outages {
 }
 
 impl Outages {
-    ghost use Rattle.obs_outage.specs.inner.Lending.{GivenBack};
+    ghost use Rattle.obs_outage.specs.inner.Lending.{OutagesGivenBack};
 
     /// The network of a case and a longest assignment of its meters. All memory is taken here.
     pub fn make<L: Ledger>(
@@ -166,7 +166,7 @@ impl Outages {
         requires network { self.old.network ≡ network_of case.old }
         ensures list { result.now ≡ outages_of case.old }
         ensures case { case.new ≡ case.old }
-        ensures* given_back { sem 𝓛 (GivenBack self.entry (λ o. (o.found ≡ outages_of case.old)
+        ensures* given_back { sem 𝓛 (OutagesGivenBack self.entry (λ o. (o.found ≡ outages_of case.old)
             × (o.network ≡ self.old.network) × AreLongest case.old o.pairs)) }
     {
         self.find_list(case, steps);

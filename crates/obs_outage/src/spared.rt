@@ -6,7 +6,7 @@ ghost use Rattle.obs_meter.specs.Touches.{touch_at};
 ghost use Rattle.obs_meter.specs.inner.Touches.{AreInRange, IsInRange};
 ghost use Rattle.obs_assign.specs.inner.Assignment.{has_flag};
 ghost use Rattle.obs_network.specs.Network.{network_of};
-ghost use Rattle.obs_kept.specs.inner.Kept.{AreLongest, HasRoom};
+ghost use Rattle.obs_kept.specs.inner.Kept.{AreLongest, HasRoomOver};
 ghost use Rattle.obs_outage.specs.inner.Sparing.{AreMissed, AreNeeded, ArePaired, ArePut, AreTouchedBy, CanBeMissed, HasFlags, HasFronts, HasPut, HasTouched, IsNeeded};
 ghost use Rattle.obs_outage.specs.inner.Told.{AreTold};
 
@@ -250,13 +250,13 @@ impl Spared {
     )
         requires network { kept.old.network ≡ network_of case.now }
         requires longest { AreLongest case.now kept.old.pairs }
-        requires room { HasRoom kept.old.network kept.old.pairs kept.old.work }
+        requires room { HasRoomOver kept.old.network kept.old.pairs kept.old.work }
         requires flags { HasFlags kept.old.network self.old }
         requires sides { sides.old.most_vertices ≡ kept.old.network.graph.most_vertices }
         ensures told { AreTold kept.new.network self.new }
         ensures network { kept.new.network ≡ kept.old.network }
         ensures longest { AreLongest case.now kept.new.pairs }
-        ensures room { HasRoom kept.new.network kept.new.pairs kept.new.work }
+        ensures room { HasRoomOver kept.new.network kept.new.pairs kept.new.work }
         ensures sides { sides.new.most_vertices ≡ sides.old.most_vertices }
     {
         let rows = case.branches().len() as u32;

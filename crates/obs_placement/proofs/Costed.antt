@@ -23,7 +23,7 @@ use Rattle.obs_meter.specs.Spanned.{graph_matroid, rank_at}
 use Rattle.obs_meter.specs.Touches.{is_live, live_items, touch_at}
 use Rattle.obs_meter.proofs.Instance.{IsMatroid-graph}
 use Rattle.obs_meter.proofs.Live.{In-live, live_low}
-use Rattle.obs_rankcut.specs.Costs.{live_candidates, live_meters, price_of}
+use Rattle.obs_meter.specs.Costs.{live_candidates, live_meters, price_of}
 use Rattle.obs_exchange.specs.Laws.{noncritical_in}
 use Rattle.obs_placement.specs.Answer.{chosen_of, cost_of, earlier_items, is_chosen}
 use Rattle.obs_placement.specs.Layers.{added_items, is_price_of, layers_of, layer_outside, layer_rank, prices_above}

@@ -18,7 +18,7 @@ use Rattle.obs_meter.specs.Touches.{every_item, is_live, live_items, touch_at}
 use Rattle.obs_meter.proofs.Assigned.{live_items-distinct}
 use Rattle.obs_meter.proofs.Instance.{IsMatroid-graph}
 use Rattle.obs_meter.proofs.Live.{In-every, In-live, live-from_live_items, live_low}
-use Rattle.obs_rankcut.specs.Costs.{price_of}
+use Rattle.obs_meter.specs.Costs.{price_of}
 use Rattle.obs_exchange.specs.Laws.{noncritical_in}
 use Rattle.obs_placement.specs.declared.plans.Layer.{Layer}
 use Rattle.obs_placement.specs.Answer.{chosen_of, cost_of}

@@ -10,7 +10,7 @@ use Rattle.obs_matroid.specs.Lists.{In}
 use Rattle.obs_matroid.proofs.Lists.{clash, In-filter, In-filter_from}
 use Rattle.obs_matroid.proofs.Ranges.{below_from, range_in}
 use Rattle.obs_meter.specs.declared.Touch.{Touch}
-use Rattle.obs_rankcut.specs.Costs.{price_of}
+use Rattle.obs_meter.specs.Costs.{price_of}
 use Rattle.obs_placement.specs.declared.plans.Layer.{Layer}
 use Rattle.obs_placement.specs.Answer.{chosen_of, cost_of, is_chosen}
 use Rattle.obs_placement.specs.inner.Choosing.{AreFirstBelow}

@@ -23,7 +23,7 @@ use Rattle.obs_meter.specs.Touches.{is_live, live_items, touch_at}
 use Rattle.obs_meter.proofs.Assigned.{live_items-distinct, rho-from_matroid, rho-to_matroid}
 use Rattle.obs_meter.proofs.Instance.{IsMatroid-graph}
 use Rattle.obs_meter.proofs.Live.{In-live, live-from_live_items}
-use Rattle.obs_rankcut.specs.Costs.{live_candidates, live_meters, price_of}
+use Rattle.obs_meter.specs.Costs.{live_candidates, live_meters, price_of}
 use Rattle.obs_rankcut.specs.inner.Costs.{DoAsMuch}
 use Rattle.obs_placement.specs.Answer.{earlier_items, is_chosen}
 use Rattle.obs_placement.specs.inner.Laws.{answer_at}

@@ -21,7 +21,7 @@ use Rattle.obs_meter.specs.Touches.{is_live, live_items, touch_at}
 use Rattle.obs_meter.proofs.Assigned.{live_items-distinct}
 use Rattle.obs_meter.proofs.Instance.{IsMatroid-graph}
 use Rattle.obs_meter.proofs.Live.{live_low}
-use Rattle.obs_rankcut.specs.Costs.{price_of}
+use Rattle.obs_meter.specs.Costs.{price_of}
 use Rattle.obs_assign.specs.Assignment.{Assignment}
 use Rattle.obs_assign.specs.inner.Assignment.{has_flag, pairs}
 use Rattle.obs_assign.proofs.Keeping.{flags_clear}

@@ -19,7 +19,7 @@ use Rattle.obs_meter.proofs.Assigned.{live_items-distinct, rho-to_matroid}
 use Rattle.obs_meter.proofs.Instance.{IsMatroid-graph}
 use Rattle.obs_meter.proofs.Live.{In-live}
 use Rattle.obs_rankcut.proofs.Costs.{live_ones}
-use Rattle.obs_rankcut.specs.Costs.{Completes, live_meters, price_of}
+use Rattle.obs_meter.specs.Costs.{Completes, live_meters, price_of}
 use Rattle.obs_placement.specs.Answer.{chosen_of, cost_of}
 use Rattle.obs_placement.specs.Placed.{shortfall_of}
 use Rattle.obs_placement.proofs.Positions.{cost_least}

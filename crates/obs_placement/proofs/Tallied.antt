@@ -22,7 +22,7 @@ use Rattle.obs_meter.specs.Touches.{is_live, live_items, touch_at}
 use Rattle.obs_meter.proofs.Assigned.{live_items-distinct}
 use Rattle.obs_meter.proofs.Instance.{IsMatroid-graph}
 use Rattle.obs_meter.proofs.Live.{In-live, live-from_live_items, live_low}
-use Rattle.obs_rankcut.specs.Costs.{price_of}
+use Rattle.obs_meter.specs.Costs.{price_of}
 use Rattle.obs_placement.specs.declared.counting.Tally.{Tally}
 use Rattle.obs_placement.specs.Answer.{is_chosen}
 use Rattle.obs_placement.specs.inner.Counting.{AreCounted, live_below, raised_below}

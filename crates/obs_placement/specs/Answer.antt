@@ -6,7 +6,7 @@ use Rattle.obs_matroid.specs.Placement.{is_raising}
 use Rattle.obs_meter.specs.declared.Touch.{Touch}
 use Rattle.obs_meter.specs.Spanned.{graph_matroid}
 use Rattle.obs_meter.specs.Touches.{is_live, live_items, touch_at}
-use Rattle.obs_rankcut.specs.Costs.{price_of}
+use Rattle.obs_meter.specs.Costs.{price_of}
 use Rattle.obs_placement.specs.Order.{is_earlier}
 
 -- the live items that are taken before c

@@ -5,7 +5,7 @@ use Rattle.obs_meter.specs.declared.Touch.{Touch}
 use Rattle.obs_meter.specs.Assignments.{rho_at}
 use Rattle.obs_meter.specs.Spanned.{rank_at}
 use Rattle.obs_meter.specs.Touches.{live_items, touch_at}
-use Rattle.obs_rankcut.specs.Costs.{price_of}
+use Rattle.obs_meter.specs.Costs.{price_of}
 use Rattle.obs_exchange.specs.Laws.{noncritical_in}
 use Rattle.obs_placement.specs.declared.plans.Layer.{Layer}
 use Rattle.obs_placement.specs.Answer.{chosen_of, cost_of}

@@ -4,7 +4,7 @@ ghost use Rattle.obs_meter.specs.Assignments.{rho_at};
 ghost use Rattle.obs_meter.specs.inner.Sizes.{HasRoomFor};
 ghost use Rattle.obs_meter.specs.Touches.{live_items};
 ghost use Rattle.obs_meter.specs.inner.Touches.{AreInRange};
-ghost use Rattle.obs_rankcut.specs.Costs.{price_of};
+ghost use Rattle.obs_meter.specs.Costs.{price_of};
 ghost use Rattle.obs_assign.specs.inner.Assignment.{pairs as pairs_at};
 ghost use Rattle.obs_placement.specs.inner.Limits.{most_candidates, most_price};
 ghost use Rattle.obs_placement.specs.Answer.{chosen_of};

@@ -16,7 +16,7 @@ use Rattle.obs_meter.specs.Touches.{is_live, live_items, touch_at}
 use Rattle.obs_meter.proofs.Assigned.{rho-to_matroid}
 use Rattle.obs_meter.proofs.Instance.{IsMatroid-graph}
 use Rattle.obs_meter.proofs.Live.{In-live}
-use Rattle.obs_rankcut.specs.Costs.{Completes, live_candidates, live_meters, price_of}
+use Rattle.obs_meter.specs.Costs.{Completes, live_candidates, live_meters, price_of}
 use Rattle.obs_rankcut.specs.inner.Costs.{DoAsMuch}
 
 pub layers_bound : (n : ℕ) (ends : List (Option Ends)) (touches : List Touch) (meters needed : ℕ) (prices X : List ℕ) (layers : List Layer) → AreBranches n ends → RunOn 0 layers

@@ -32,7 +32,7 @@ use Rattle.obs_network.specs.Observable.{case_live_meters}
 use Rattle.obs_network.proofs.Observed.{pairs_in}
 use Rattle.obs_network.proofs.OfCase.{length-case_meters}
 use Rattle.obs_repair.specs.Bounds.{bound_meters, bound_outside, bound_rank, case_critical_meters, component_meters, component_rank, is_critical_meter, is_meter_of}
-use Rattle.obs_repair.specs.inner.Kept.{AreLongest}
+use Rattle.obs_kept.specs.inner.Kept.{AreLongest}
 use Rattle.obs_repair.specs.inner.Bounds.{AreMarks}
 use Rattle.obs_repair.proofs.Enough.{in_component, least, live_pairs}
 use Rattle.obs_repair.proofs.Tight.{IsClosedFor, bound_is, mark_from, pairs_in_from}

@@ -23,7 +23,7 @@ use Rattle.obs_network.specs.Observable.{IsObservable, branch_component, case_li
 use Rattle.obs_network.proofs.InComponents.{kinds_sum, touched_component}
 use Rattle.obs_network.proofs.Observed.{few_in, pairs_in}
 use Rattle.obs_network.proofs.OfCase.{case_branches-are}
-use Rattle.obs_repair.specs.inner.Kept.{AreLongest}
+use Rattle.obs_kept.specs.inner.Kept.{AreLongest}
 
 module _ (t : Tables) (v : IsValid t) (a : Assignment) (h : AreLongest t a) where
   pub live_pairs : IsAssignmentAt (case_branches t) (case_meters t) (case_live_meters t) (pairs a)

@@ -16,7 +16,8 @@ use Rattle.obs_network.proofs.FewLost.{rank_is}
 use Rattle.obs_network.proofs.OfCase.{case_vertex_count-le, length-case_branches, length-case_meters}
 use Rattle.obs_network.proofs.Observed.{most_pairs}
 use Rattle.obs_exchange.specs.inner.Longest.{IsLongest, IsMost}
-use Rattle.obs_repair.specs.inner.Kept.{AreLongest, HasRoom, case_room}
+use Rattle.obs_kept.specs.inner.Kept.{AreLongest}
+use Rattle.obs_repair.specs.inner.Kept.{HasRoom, case_room}
 
 pub few_meters : (t : Tables) → IsValid t → length (case_meters t) ≤ most_rows
 few_meters t v =

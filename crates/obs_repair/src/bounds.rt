@@ -3,7 +3,8 @@ ghost use Rattle.std.specs.Prelude.{◌≡◌, ◌<◌, ◌≤◌, length, take}
 ghost use Rattle.obs_network.specs.Network.{case_component_count};
 ghost use Rattle.obs_repair.specs.Bounds.{bound_meters, bound_outside, bound_rank, case_critical_meters};
 ghost use Rattle.obs_repair.specs.inner.Bounds.{AreMarks};
-ghost use Rattle.obs_repair.specs.inner.Kept.{AreLongest, HasRoom};
+ghost use Rattle.obs_kept.specs.inner.Kept.{AreLongest};
+ghost use Rattle.obs_repair.specs.inner.Kept.{HasRoom};
 
 use crate::components::{count_paired, list_marked};
 use obs_assign::{Assignment, Steps};

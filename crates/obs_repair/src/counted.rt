@@ -2,7 +2,7 @@
 ghost use Rattle.std.specs.Prelude.{◌<◌, ◌↔◌, IsTrue};
 ghost use Rattle.obs_network.specs.Network.{case_component_count};
 ghost use Rattle.obs_network.specs.Observable.{IsObservable};
-ghost use Rattle.obs_repair.specs.inner.Kept.{AreLongest};
+ghost use Rattle.obs_kept.specs.inner.Kept.{AreLongest};
 
 use crate::components::count_paired;
 use obs_assign::Assignment;

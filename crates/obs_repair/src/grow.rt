@@ -9,7 +9,7 @@ ghost use Rattle.obs_exchange.specs.inner.Lengthened.{HasLengthened};
 ghost use Rattle.obs_exchange.specs.inner.Longest.{IsMost};
 ghost use Rattle.obs_network.specs.Network.{case_branches, case_meters, network_of};
 ghost use Rattle.obs_repair.specs.declared.edit.Edit.TheVariants.{Meter};
-ghost use Rattle.obs_repair.specs.inner.Kept.{AreLongest};
+ghost use Rattle.obs_kept.specs.inner.Kept.{AreLongest};
 ghost use Rattle.obs_repair.specs.inner.Repairing.{IsBack, IsMeterBack};
 
 use crate::edit::Edit;

@@ -4,7 +4,7 @@ ghost use Rattle.obs_assign.specs.inner.Assignment.{pairs};
 ghost use Rattle.obs_exchange.specs.declared.Sources.TheVariants.{All};
 ghost use Rattle.obs_exchange.specs.inner.Found.{HasClosed};
 ghost use Rattle.obs_network.specs.Network.{case_branches, case_meters, case_vertex_count, network_of};
-ghost use Rattle.obs_repair.specs.inner.Kept.{AreLongest};
+ghost use Rattle.obs_kept.specs.inner.Kept.{AreLongest};
 ghost use Rattle.obs_repair.specs.inner.Parts.{AreBoundBefore, BoundsNetwork, BoundsWhereKnown, IsPlaceIn, IsSaidBetween, is_within};
 
 use crate::edit::Edit;

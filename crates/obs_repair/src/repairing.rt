@@ -9,7 +9,8 @@ ghost use Rattle.obs_repair.specs.Edits.{edited};
 ghost use Rattle.obs_repair.specs.inner.Edits.{HasRow, IsRepaired, TakesOne};
 ghost use Rattle.obs_repair.specs.inner.Parts.{BoundsWhereKnown, HasRoomForParts};
 ghost use Rattle.obs_repair.specs.inner.Repairing.{AreKept, AreLeft, HasPlace, IsBefore, IsMeterTaken, IsNetworkBefore, IsSaidAlone, StoodBefore, is_put, most_pairs};
-ghost use Rattle.obs_repair.specs.inner.Kept.{AreLongest, HasRoom};
+ghost use Rattle.obs_kept.specs.inner.Kept.{AreLongest};
+ghost use Rattle.obs_repair.specs.inner.Kept.{HasRoom};
 
 use crate::edit::Edit;
 use crate::grow::grow;

@@ -5,7 +5,7 @@ use Rattle.obs_io.specs.Bytes.{Wrote, WrotePart, and_then}
 use Rattle.obs_io.specs.inner.Bytes.{Writes}
 use Rattle.obs_io.specs.Causes.{Rose, HasCause}
 use Rattle.obs_io.specs.declared.outside.Failed.{Failed}
-use Rattle.obs_report.specs.inner.Printed.{AppendsAt, Buffered, FitsIn, HoldsSince, PrintsAt, empty_buffer}
+use Rattle.obs_report.specs.inner.Printed.{AppendsAt, Buffered, HoldsSince, LeavesRoom, PrintsAt, empty_buffer}
 
 pub and_then_none : (a : Option (List ℕ)) → and_then a [] ≡ a
 and_then_none None = refl
@@ -74,7 +74,7 @@ then_printed {T = T} {E = E} {a = a} {b = b} {d = d} {h = h} {i = i} {j = j} {f 
 
 -- what is held is sent, and nothing is printed behind it
 pub sent_printed : {T E : Type 0} (x : T) {a b : Option (List ℕ)} {held : List ℕ} {f k : ℕ} {p q : ℕ → Type 0} {r : Result T E}
-    → Writes a b r held → HasCause f k r → (IsOk r → k ≡ f) → FitsIn p q r held → PrintsAt {E = E} a b held [] f k p q (Ok x) r []
+    → Writes a b r held → HasCause f k r → (IsOk r → k ≡ f) → LeavesRoom p q r held → PrintsAt {E = E} a b held [] f k p q (Ok x) r []
 sent_printed {E = E} x {a = a} {b = b} {held = held} {p = p} {q = q} {r = r} writes cause quiet fits = record {
   written = λ start front h. subst (HoldsSince start b [] r) (sym (append-nil front)) (held_sent start a b held x r front h writes);
   later = cause.later;
@@ -87,7 +87,7 @@ sent_printed {E = E} x {a = a} {b = b} {held = held} {p = p} {q = q} {r = r} wri
 
 -- bytes are sent at once
 pub passed_printed : {T E : Type 0} (x : T) {a b : Option (List ℕ)} {held bytes : List ℕ} {f k : ℕ} {p q : ℕ → Type 0} {r : Result T E}
-    → held ≡ [] → Writes a b r bytes → HasCause f k r → (IsOk r → k ≡ f) → FitsIn p q r bytes → PrintsAt {E = E} a b held held f k p q (Ok x) r bytes
+    → held ≡ [] → Writes a b r bytes → HasCause f k r → (IsOk r → k ≡ f) → LeavesRoom p q r bytes → PrintsAt {E = E} a b held held f k p q (Ok x) r bytes
 passed_printed {E = E} x {a = a} {b = b} {held = held} {bytes = bytes} {p = p} {q = q} {r = r} none writes cause quiet fits = record {
   written = λ start front h. held_passed start a b held x r front bytes none h writes;
   later = cause.later;
@@ -142,7 +142,7 @@ cause_whole x u = record { later = u.later; failed = u.cause refl }
 pub quiet_whole : {T E : Type 0} (x : T) {a b : Option (List ℕ)} {f k : ℕ} {p q : ℕ → Type 0} {r : Result T E} {text : List ℕ} → PrintsAt {E = E} a b [] [] f k p q (Ok x) r text → IsOk r → k ≡ f
 quiet_whole x u ok = (u.quiet ok).1
 
-pub fits_whole : {T E : Type 0} (x : T) {a b : Option (List ℕ)} {f k : ℕ} {p q : ℕ → Type 0} {r : Result T E} {text : List ℕ} → PrintsAt {E = E} a b [] [] f k p q (Ok x) r text → FitsIn p q r text
+pub fits_whole : {T E : Type 0} (x : T) {a b : Option (List ℕ)} {f k : ℕ} {p q : ℕ → Type 0} {r : Result T E} {text : List ℕ} → PrintsAt {E = E} a b [] [] f k p q (Ok x) r text → LeavesRoom p q r text
 fits_whole x {p = p} {q = q} {text = text} u = λ rest has.
     let found = u.room refl rest (subst p (omega arith) has) in
     (found.0, subst q (omega arith) found.1)

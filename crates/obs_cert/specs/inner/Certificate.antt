@@ -5,7 +5,7 @@ use Rattle.obs_cert.specs.declared.fault.CertCode.TheVariants.{BadLine, OutOfPla
 use Rattle.obs_cert.specs.declared.fault.CertFault.{CertFault}
 use Rattle.obs_text.specs.Lines.{lines_of}
 use Rattle.obs_cert.specs.Claims.{Claim, Layer, tree, bound, cost, shortfall}
-use Rattle.obs_cert.specs.Words.{Line, tree_line, bound_line, cost_line, shortfall_line, pair_line, chosen_line, layer_line, inside_line, end_line, line_of}
+use Rattle.obs_cert.specs.Words.{Line, tree_line, bound_line, cost_line, shortfall_line, pair_line, chosen_line, layer_line, inside_line, end_line, claim_line}
 
 -- lists of lines, one after the other
 abbrev pub joined : List (List Line) → List Line
@@ -29,7 +29,7 @@ certificate_lines claims = joined (map claim_lines claims) ++ end_line ∷ []
 
 -- bytes are these claims: each of their lines has the form of the line that stands at its place
 abbrev pub IsCertificate : List ℕ → List Claim → Type 0
-IsCertificate bytes claims = map line_of (lines_of bytes) ≡ map Some (certificate_lines claims)
+IsCertificate bytes claims = map claim_line (lines_of bytes) ≡ map Some (certificate_lines claims)
 
 -- lines are those of a whole certificate
 abbrev pub IsWhole : List Line → Type 0
@@ -41,14 +41,14 @@ IsFront lines = (claims : List Claim) × (rest : List Line) × (lines ++ rest �
 
 -- bytes have the forms of lines with which a certificate may begin
 pub record AreBefore (earlier : List (List ℕ)) (front : List Line) : Type 0 where
-  pub forms : map line_of earlier ≡ map Some front
+  pub forms : map claim_line earlier ≡ map Some front
   pub begins : IsFront front
 
 -- what is wrong with the bytes after lines: these are whole; the bytes have no form; or no certificate begins with their line after these
 abbrev pub IsWrong : CertCode → List Line → List ℕ → Type 0
 IsWrong AfterEnd front bytes = IsWhole front
-IsWrong BadLine front bytes = (¬ IsWhole front) × (line_of bytes ≡ None)
-IsWrong OutOfPlace front bytes = (¬ IsWhole front) × (line : Line) × (line_of bytes ≡ Some line) × (¬ IsFront (front ++ line ∷ []))
+IsWrong BadLine front bytes = (¬ IsWhole front) × (claim_line bytes ≡ None)
+IsWrong OutOfPlace front bytes = (¬ IsWhole front) × (line : Line) × (claim_line bytes ≡ Some line) × (¬ IsFront (front ++ line ∷ []))
 IsWrong NoEnd front bytes = ⊥
 
 -- the first line that is wrong, after lines with which a certificate may begin

@@ -11,7 +11,7 @@ use Rattle.obs_network.specs.Network.{case_branches, case_vertex_count}
 use Rattle.obs_cert.specs.declared.contraction.Contraction as program
 use Rattle.obs_cert.specs.declared.contraction.Contraction.TheVariants.{Nothing, Star}
 use Rattle.obs_cert.specs.inner.Links.{AreLinks, link}
-use Rattle.obs_cert.specs.Scopes.{touches_of}
+use Rattle.obs_cert.specs.Scopes.{item_touches}
 
 -- the vertex that another one becomes where those that are linked with v become v
 abbrev pub becomes : ℕ → List ℕ → ℕ → ℕ
@@ -46,4 +46,4 @@ IsContracted (Star v links) u = u ≡ v
 
 -- the rank of the branches that some items touch in the contracted graph
 abbrev pub contracted_rank : Tables → program.Contraction → List ℕ → ℕ
-contracted_rank t c list = rank_at (case_vertex_count t) (contracted_ends c (case_branches t)) (flat_map (touches_of t) list)
+contracted_rank t c list = rank_at (case_vertex_count t) (contracted_ends c (case_branches t)) (flat_map (item_touches t) list)

@@ -8,7 +8,7 @@ use Rattle.obs_cert.specs.inner.Certificate.{IsCertificate, IsFirstFault}
 use Rattle.obs_cert.specs.Claims.{Claim}
 use Rattle.obs_cert.specs.inner.Forms.{HasForm, with_tabs}
 use Rattle.obs_cert.specs.Read.{claims_of}
-use Rattle.obs_cert.specs.Words.{Line, line_of}
+use Rattle.obs_cert.specs.Words.{Line, claim_line}
 
 -- what is read are the claims that the bytes are
 abbrev pub CertificateIsRead : Type 0
@@ -29,7 +29,7 @@ FirstFaultIsMet = (bytes : List ℕ) (fault : CertFault) → claims_of bytes ≡
 -- bytes are a line exactly where they are words of its form, with one tab between each two
 abbrev pub LinesHaveForms : Type 0
 LinesHaveForms = (bytes : List ℕ) (line : Line) →
-    (line_of bytes ≡ Some line) ↔ ((words : List (List ℕ)) × HasForm line words × (bytes ≡ with_tabs words))
+    (claim_line bytes ≡ Some line) ↔ ((words : List (List ℕ)) × HasForm line words × (bytes ≡ with_tabs words))
 
 -- no word of a form has a control byte, and so none has a tab
 abbrev pub FormsArePlain : Type 0

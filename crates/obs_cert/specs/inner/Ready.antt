@@ -10,7 +10,7 @@ use Rattle.obs_cert.specs.inner.Stars.{AreStarRanks}
 
 -- the arrays have room for a case with so many rows: ways up and ranks for two vertices of each node, a mark for each row of the branch table
 -- and each item, and a number for each row
-pub record HasRoom (rows : Rows) (w : Work) : Type 0 where
+pub record HasRoomForRows (rows : Rows) (w : Work) : Type 0 where
   pub chosen : rows.meters + rows.candidates < length w.chosen.items
   pub paired : rows.meters + rows.candidates < length w.paired.items
   pub listed : rows.meters + rows.candidates < length w.listed.items
@@ -23,8 +23,8 @@ pub record HasRoom (rows : Rows) (w : Work) : Type 0 where
   pub links : length w.links.items ≡ rows.branches
 
 -- they have room, each mark is below the stamp, nothing is joined, the ranks that are known are those of the case, and the links are its rows
-pub record IsReady (t : Tables) (stamp : ℕ) (w : Work) : Type 0 where
-  pub room : HasRoom (rows_of t) w
+pub record IsReadyFor (t : Tables) (stamp : ℕ) (w : Work) : Type 0 where
+  pub room : HasRoomForRows (rows_of t) w
   pub chosen : AreBelow stamp w.chosen.items
   pub paired : AreBelow stamp w.paired.items
   pub listed : AreBelow stamp w.listed.items

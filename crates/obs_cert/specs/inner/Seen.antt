@@ -11,5 +11,5 @@ too_dear None to = false
 too_dear (Some price) to = not (nat_lt price to)
 
 -- it tells for each price whether a layer that ends there may not speak of one of the items
-abbrev pub Tells : Tables → List ℕ → Seen → Type 0
-Tells t list seen = (to : ℕ) → not_inside (is_below t to) list ≡ (seen.idle || too_dear seen.dearest to)
+abbrev pub TellsLayers : Tables → List ℕ → Seen → Type 0
+TellsLayers t list seen = (to : ℕ) → not_inside (is_below t to) list ≡ (seen.idle || too_dear seen.dearest to)

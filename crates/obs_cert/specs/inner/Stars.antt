@@ -5,7 +5,7 @@ use Rattle.obs_graph.specs.Positions.{branches_at}
 use Rattle.obs_network.specs.Network.{case_offered, case_rows, case_vertex_count}
 use Rattle.obs_cert.specs.declared.stars.Injection.{Injection}
 use Rattle.obs_cert.specs.Flaws.{rank_of_branches}
-use Rattle.obs_cert.specs.Scopes.{touches_of}
+use Rattle.obs_cert.specs.Scopes.{item_touches}
 
 -- the rank of the rows at a vertex
 abbrev pub star_rank : Tables → ℕ → ℕ
@@ -19,4 +19,4 @@ AreStarRanks t stars = (v : ℕ) → 0 < slice_index_or stars v 0 → slice_inde
 pub record IsInjection (t : Tables) (i : Injection) : Type 0 where
   pub item : i.item < length (case_offered t)
   pub bus : i.bus < case_vertex_count t
-  pub rows : touches_of t i.item ≡ branches_at (case_rows t) i.bus
+  pub rows : item_touches t i.item ≡ branches_at (case_rows t) i.bus

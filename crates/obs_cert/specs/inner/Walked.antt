@@ -7,9 +7,9 @@ use Rattle.obs_cert.specs.declared.walk.ClaimLines.{ClaimLines}
 use Rattle.obs_cert.specs.declared.walk.ClaimLines.TheVariants.{Tree, Bound, Cost, Shortfall}
 use Rattle.obs_cert.specs.Claims.{Claim, CostClaim, Item, Layer, Pair, candidate, tree, bound, cost, shortfall}
 use Rattle.obs_cert.specs.Flaws.{all_inside}
-use Rattle.obs_cert.specs.Numbered.{chosen_items, paired_items}
-use Rattle.obs_cert.specs.Read.{Parts, parts_of}
-use Rattle.obs_cert.specs.Words.{Line, tree_line, bound_line, cost_line, shortfall_line, pair_line, chosen_line, layer_line, inside_line, end_line, line_of}
+use Rattle.obs_cert.specs.Numbered.{candidate_items, paired_items}
+use Rattle.obs_cert.specs.Read.{ClaimParts, parts_of}
+use Rattle.obs_cert.specs.Words.{Line, tree_line, bound_line, cost_line, shortfall_line, pair_line, chosen_line, layer_line, inside_line, end_line, claim_line}
 
 -- the lines that some bytes are, up to the first that has no form
 abbrev pub said_line : Option Line → List Line → List Line
@@ -18,22 +18,22 @@ said_line (Some line) lines = line ∷ lines
 
 abbrev pub said_lines : List (List ℕ) → List Line
 said_lines [] = []
-said_lines (bytes ∷ rest) = said_line (line_of bytes) (said_lines rest)
+said_lines (bytes ∷ rest) = said_line (claim_line bytes) (said_lines rest)
 
 abbrev pub lines_in : List ℕ → List Line
 lines_in bytes = said_lines (lines_of bytes)
 
 -- what these lines are
-abbrev pub parts_in : List ℕ → Parts
+abbrev pub parts_in : List ℕ → ClaimParts
 parts_in bytes = parts_of (lines_in bytes)
 
 -- the items of a sort: those that one list has, those of all lists behind the first layer's line, those of this layer and all lists behind it, those of the pairs, and the chosen candidates
-abbrev pub items_of_sort : Sort → Parts → List Item
+abbrev pub items_of_sort : Sort → ClaimParts → List Item
 items_of_sort Inside parts = parts.inside
 items_of_sort EachInside parts = all_inside parts.layers
 items_of_sort AllInside parts = parts.inside ++ all_inside parts.layers
 items_of_sort Paired parts = paired_items parts.pairs
-items_of_sort Chosen parts = chosen_items parts.chosen
+items_of_sort Chosen parts = candidate_items parts.chosen
 
 -- the item that a line lists, pairs or chooses
 abbrev pub inside_on : Line → Option Item
@@ -90,11 +90,11 @@ pair_on (inside_line item) = None
 pair_on end_line = None
 
 -- the cost claim of this number that has these parts
-abbrev pub cost_of : ℕ → Parts → CostClaim
+abbrev pub cost_of : ℕ → ClaimParts → CostClaim
 cost_of number parts = record { number = number; chosen = parts.chosen; pairs = parts.pairs; layers = parts.layers }
 
 -- the claim that a line starts, where these parts come after it
-abbrev pub claim_on : Line → Parts → Option Claim
+abbrev pub claim_on : Line → ClaimParts → Option Claim
 claim_on (tree_line component) parts = Some (tree (record { component = component; pairs = parts.pairs }))
 claim_on (bound_line component rank outside) parts = Some (bound (record { component = component; rank = rank; outside = outside; inside = parts.inside }))
 claim_on (cost_line number) parts = Some (cost (cost_of number parts))
@@ -106,7 +106,7 @@ claim_on (inside_line item) parts = None
 claim_on end_line parts = None
 
 -- the layer that a line starts, where these parts come after it
-abbrev pub layer_on : Line → Parts → Option Layer
+abbrev pub layer_on : Line → ClaimParts → Option Layer
 layer_on (tree_line component) parts = None
 layer_on (bound_line component rank outside) parts = None
 layer_on (cost_line number) parts = None

@@ -1,5 +1,5 @@
 -- What is printed is read back as claims, these hold, and its length is bounded by the rows that a table may have.
-use Rattle.std.specs.Prelude.{◌≡◌, ◌↔◌, ℕ, ◌+◌, ◌*◌, ◌<◌, ◌≤◌, true, List, [], ◌∷◌, ◌++◌, length, map, Some}
+use Rattle.std.specs.Prelude.{◌≡◌, ℕ, ◌+◌, ◌*◌, ◌<◌, ◌≤◌, true, List, [], ◌∷◌, ◌++◌, length, map, Some}
 use Rattle.std.specs.List.{range_with_len, sum_by}
 use Rattle.obs_text.specs.Lines.{lines_of}
 use Rattle.obs_case.specs.Tables.{IsValid, Tables}
@@ -7,16 +7,14 @@ use Rattle.obs_network.specs.Network.{case_component_count}
 use Rattle.obs_network.specs.Observable.{IsObservable, is_energised_component}
 use Rattle.obs_cert.specs.inner.Certificate.{claim_lines}
 use Rattle.obs_cert.specs.Claims.{tree, bound}
-use Rattle.obs_cert.specs.Completing.{CompletesCase as CheckedComplete, price_together as checked_price}
 use Rattle.obs_cert.specs.Flaws.{Holds}
-use Rattle.obs_cert.specs.Words.{Line, end_line, line_of}
+use Rattle.obs_cert.specs.Words.{Line, claim_line, end_line}
 use Rattle.obs_report.specs.Lines.{last_line}
 use Rattle.obs_report.specs.Meters.{bound_text}
 use Rattle.obs_report.specs.Placements.{placement_text}
 use Rattle.obs_report.specs.Trees.{tree_text}
 use Rattle.obs_repair.specs.Bounds.{bound_meters, bound_outside, bound_rank}
 use Rattle.obs_edit.specs.Answers.{case_first_pairs}
-use Rattle.obs_edit.specs.Placements.{CompletesCase as PlannedComplete, price_together as planned_price}
 use Rattle.obs_edit.specs.Planned.{case_placed_pairs, case_placement}
 use Rattle.obs_claimed.specs.Claimed.{component_bound, component_tree, placement_claim}
 
@@ -37,7 +35,7 @@ PlacementsHold = (t : Tables) → IsValid t → Holds t (placement_claim t (case
 -- bytes are these lines of a certificate, whatever stands behind them
 abbrev pub AreLines : List ℕ → List Line → Type 0
 AreLines bytes lines = (rest : List ℕ) →
-    map line_of (lines_of (bytes ++ rest)) ≡ map Some lines ++ map line_of (lines_of rest)
+    map claim_line (lines_of (bytes ++ rest)) ≡ map Some lines ++ map claim_line (lines_of rest)
 
 -- a printed tree is the lines of its claim
 abbrev pub TreesAreLines : Type 0
@@ -69,11 +67,3 @@ TreesAndBoundsFit = (t : Tables) → IsValid t →
 abbrev pub PlacementsFit : Type 0
 PlacementsFit = (t : Tables) → IsValid t →
     length (placement_text t (case_placement t) (case_placed_pairs t)) + length last_line ≤ 616 * t.most + 30
-
--- items complete the meters of a case for the checker of certificates exactly where they do for the planner
-abbrev pub CompleteAlike : Type 0
-CompleteAlike = (t : Tables) (X : List ℕ) → CheckedComplete t X ↔ PlannedComplete t X
-
--- and both say the same of what they cost together
-abbrev pub CostAlike : Type 0
-CostAlike = (t : Tables) (X : List ℕ) → checked_price t X ≡ planned_price t X

@@ -2,7 +2,7 @@
 use Rattle.std.specs.Prelude.{ℕ, ◌≡◌, ◌≢◌, ◌⊎◌, false, None}
 use Rattle.obs_assign.specs.inner.Assignment.{branch_at}
 use Rattle.obs_network.specs.Network.{case_needed}
-use Rattle.obs_edit.specs.declared.edit.Applied.{Applied}
+use Rattle.obs_edit.specs.declared.applied.Applied.{Applied}
 use Rattle.obs_repair.specs.declared.edit.Edit.{Edit}
 use Rattle.obs_repair.specs.declared.edit.Edit.TheVariants.{Meter}
 use Rattle.obs_edit.specs.declared.hand.AtHand.{AtHand}

@@ -6,5 +6,5 @@ use Rattle.obs_edit.specs.Sessions.{Session}
 use Rattle.obs_edit.specs.contracts.session.Session.{the_row}
 
 -- what is lent to be read is given back as a session of which this holds
-abbrev pub GivenBack : MutBor Session → (Session → Type 0) → Fml
-GivenBack s P = follows_so the_row the_row s.ghost_name none (λ _ _. ⊤) P
+abbrev pub SessionGivenBack : MutBor Session → (Session → Type 0) → Fml
+SessionGivenBack s P = follows_so the_row the_row s.ghost_name none (λ _ _. ⊤) P

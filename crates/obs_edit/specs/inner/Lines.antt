@@ -1,7 +1,7 @@
 -- What a session does at a line.
 use Rattle.std.specs.Prelude.{ℕ, ◌≡◌, List, Result, Ok, Err}
-use Rattle.obs_edit.specs.declared.edit.Done.{Done}
-use Rattle.obs_edit.specs.declared.edit.Done.TheVariants.{Edited, Asked}
+use Rattle.obs_edit.specs.declared.applied.Done.{Done}
+use Rattle.obs_edit.specs.declared.applied.Done.TheVariants.{Edited, Asked}
 use Rattle.obs_repair.specs.declared.edit.Edit.{Edit}
 use Rattle.obs_repair.specs.declared.edit.Meant.TheVariants.{Edits, Asks}
 use Rattle.obs_repair.specs.declared.edit.Refusal.{Refusal}

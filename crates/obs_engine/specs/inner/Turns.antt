@@ -1,6 +1,6 @@
 -- The edits of a trial, which lose and regain each meter, and the searches that they took.
 use Rattle.std.specs.Prelude.{ℕ, zero, suc, ◌≡◌, ◌≤◌, ◌+◌, true, false, length}
-use Rattle.obs_edit.specs.declared.edit.Applied.{Applied}
+use Rattle.obs_edit.specs.declared.applied.Applied.{Applied}
 use Rattle.obs_repair.specs.declared.edit.Edit.TheVariants.{Meter}
 use Rattle.obs_edit.specs.inner.Edits.{IsEdited}
 use Rattle.obs_edit.specs.Sessions.{Session}

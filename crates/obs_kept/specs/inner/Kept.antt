@@ -20,7 +20,7 @@ abbrev pub network_sizes : Network → Sizes
 network_sizes n = record { meters = n.rows.meters; branches = length n.graph.ends; vertices = n.graph.most_vertices }
 
 -- there is room for the pairs of a network and their searches, whichever flags are set
-pub record HasRoom (n : Network) (a : Assignment) (w : Work) : Type 0 where
+pub record HasRoomOver (n : Network) (a : Assignment) (w : Work) : Type 0 where
   pub pair_meters : a.most_meters ≡ n.rows.meters
   pub pair_branches : a.forest.most_branches ≡ length n.graph.ends
   pub pair_vertices : a.forest.most_vertices ≡ n.graph.most_vertices

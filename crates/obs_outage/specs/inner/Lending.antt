@@ -6,5 +6,5 @@ use Rattle.obs_outage.specs.inner.Outages.{Outages}
 use Rattle.obs_outage.specs.contracts.outages.Outages.{the_row}
 
 -- what is lent to be read is given back as a value of which this holds
-abbrev pub GivenBack : MutBor Outages → (Outages → Type 0) → Fml
-GivenBack o P = follows_so the_row the_row o.ghost_name none (λ _ _. ⊤) P
+abbrev pub OutagesGivenBack : MutBor Outages → (Outages → Type 0) → Fml
+OutagesGivenBack o P = follows_so the_row the_row o.ghost_name none (λ _ _. ⊤) P

@@ -5,7 +5,7 @@ use Rattle.obs_case.specs.Tables.{Tables}
 use Rattle.obs_meter.specs.inner.Sizes.{HasRoomFor}
 use Rattle.obs_network.specs.inner.Bridges.{AreBridges}
 use Rattle.obs_network.specs.Network.{case_rows, network_of}
-use Rattle.obs_kept.specs.inner.Kept.{AreLongest, AreLongestOver, HasRoom, network_sizes}
+use Rattle.obs_kept.specs.inner.Kept.{AreLongest, AreLongestOver, HasRoomOver, network_sizes}
 use Rattle.obs_kept.specs.declared.kept.Kept.{Kept}
 use Rattle.obs_outage.specs.inner.Feeds.{AreFeeds}
 use Rattle.obs_outage.specs.inner.Sparing.{Spared}
@@ -18,7 +18,7 @@ use Rattle.obs_outage.specs.declared.rowless.Without.{Without}
 -- what is told of its branches is so
 pub record IsReady (kept : Kept) (without : Without) (spared : Spared) : Type 0 where
   pub longest : AreLongestOver kept.network kept.pairs
-  pub room : HasRoom kept.network kept.pairs kept.work
+  pub room : HasRoomOver kept.network kept.pairs kept.work
   pub copy : IsCopy kept.network without
   pub fits : HasRoomFor (network_sizes kept.network) kept.network.graph kept.network.meters.touches
   pub branches : AreBranches kept.network.graph.vertices kept.network.graph.ends
@@ -29,7 +29,7 @@ pub record IsReady (kept : Kept) (without : Without) (spared : Spared) : Type 0 
 pub record IsKeptOf (t : Tables) (kept : Kept) : Type 0 where
   pub network : kept.network ≡ network_of t
   pub longest : AreLongest t kept.pairs
-  pub room : HasRoom kept.network kept.pairs kept.work
+  pub room : HasRoomOver kept.network kept.pairs kept.work
 
 -- what is ready for outages, and the walks have room for the network, and what stands below bridges for its rows
 pub record IsBasis (b : Basis) : Type 0 where

@@ -9,7 +9,7 @@ use Rattle.obs_meter.specs.declared.Touch.{Touch}
 use Rattle.obs_meter.specs.Assignments.{IsRhoAt}
 use Rattle.obs_meter.specs.Spanned.{graph_matroid}
 use Rattle.obs_meter.specs.Touches.{live_items, touch_at}
-use Rattle.obs_rankcut.specs.Costs.{live_candidates, live_meters, price_of}
+use Rattle.obs_meter.specs.Costs.{live_candidates, live_meters, price_of}
 use Rattle.obs_rankcut.specs.inner.Costs.{DoAsMuch}
 use Rattle.obs_placement.specs.Answer.{chosen_of, cost_of, is_chosen}
 

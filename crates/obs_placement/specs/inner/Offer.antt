@@ -3,7 +3,7 @@ use Rattle.std.specs.Prelude.{◌≡◌, ℕ, ◌+◌, ◌≤◌, ◌<◌, ◌^�
 use Rattle.obs_graph.specs.Positions.{AreBranches}
 use Rattle.obs_meter.specs.inner.Sizes.{HasRoomFor, Sizes}
 use Rattle.obs_meter.specs.inner.Touches.{AreInRange}
-use Rattle.obs_rankcut.specs.Costs.{price_of}
+use Rattle.obs_meter.specs.Costs.{price_of}
 use Rattle.obs_placement.specs.declared.offer.Offer.{Offer}
 use Rattle.obs_placement.specs.Answer.{chosen_of, earlier_items, is_chosen}
 use Rattle.obs_placement.specs.inner.Limits.{most_candidates, most_price}

@@ -4,7 +4,7 @@ use Rattle.obs_graph.specs.declared.Ends.{Ends}
 use Rattle.obs_matroid.specs.Lists.{In}
 use Rattle.obs_meter.specs.declared.Touch.{Touch}
 use Rattle.obs_meter.specs.Assignments.{IsRhoAt}
-use Rattle.obs_rankcut.specs.Costs.{live_meters, live_candidates}
+use Rattle.obs_meter.specs.Costs.{live_meters, live_candidates}
 
 -- the items of X are live candidates, and with the live meters their greatest length is r. Where r is that of all live items, they do
 -- as much as all; an idle candidate touches nothing and would only cost

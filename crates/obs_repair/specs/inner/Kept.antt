@@ -1,16 +1,11 @@
--- The kept pairs of a case, and the room for them.
+-- The room for the kept pairs of a case.
 use Rattle.std.specs.Prelude.{◌≡◌, length}
 use Rattle.obs_case.specs.Tables.{Tables}
 use Rattle.obs_meter.specs.inner.Sizes.{Sizes}
 use Rattle.obs_assign.specs.Assignment.{Assignment}
 use Rattle.obs_exchange.specs.inner.Found.{Work}
-use Rattle.obs_exchange.specs.inner.Longest.{IsLongest}
-use Rattle.obs_network.specs.Network.{case_meters, case_vertex_room, network_of}
+use Rattle.obs_network.specs.Network.{case_vertex_room}
 use Rattle.obs_network.specs.inner.Network.{case_position_count}
-
--- the pairs are a longest assignment over the network of a case, and nothing is frozen
-abbrev pub AreLongest : Tables → Assignment → Type 0
-AreLongest t a = IsLongest (network_of t).graph (case_meters t) a
 
 -- the sizes of a work value for a case, whichever switches are closed
 abbrev pub case_room : Tables → Sizes

@@ -16,7 +16,7 @@ use Rattle.obs_repair.specs.declared.edit.Edit.{Edit}
 use Rattle.obs_repair.specs.declared.edit.Edit.TheVariants.{Switch, Branch, Meter}
 use Rattle.obs_repair.specs.Edits.{edited}
 use Rattle.obs_repair.specs.inner.Edits.{HasRow, standing}
-use Rattle.obs_repair.specs.inner.Kept.{AreLongest}
+use Rattle.obs_kept.specs.inner.Kept.{AreLongest}
 
 -- the edit makes this case of another one, which has this network and for which the pairs are longest
 pub record IsBefore (t : Tables) (edit : Edit) (n : Network) (a : Assignment) : Type 0 where

@@ -7,8 +7,8 @@ use Rattle.obs_io.specs.Causes.{HasCause, Rose}
 use Rattle.obs_io.specs.declared.outside.Failed.{Failed}
 
 -- room for a text and for some bytes more lets the text be printed, and leaves the room for those
-abbrev pub FitsIn : {T E : Type 0} → (ℕ → Type 0) → (ℕ → Type 0) → Result T E → List ℕ → Type 0
-FitsIn room_before room_after result text = (rest : ℕ) → room_before (length text + rest) → IsOk result × room_after rest
+abbrev pub LeavesRoom : {T E : Type 0} → (ℕ → Type 0) → (ℕ → Type 0) → Result T E → List ℕ → Type 0
+LeavesRoom room_before room_after result text = (rest : ℕ) → room_before (length text + rest) → IsOk result × room_after rest
 
 -- since some start this text was printed, but for its last bytes, which are held back; or printing failed behind a front of it
 abbrev pub HoldsSince : {T E : Type 0} → Option (List ℕ) → Option (List ℕ) → List ℕ → Result T E → List ℕ → Type 0
@@ -47,7 +47,7 @@ pub record AppendsAt {T E : Type 0} (before after : Option (List ℕ)) (faults_b
   pub writes : Writes before after result text
   pub cause : HasCause faults_before faults_after result
   pub quiet : IsOk result → faults_after ≡ faults_before
-  pub fits : FitsIn room_before room_after result text
+  pub fits : LeavesRoom room_before room_after result text
 
 abbrev pub Appends : {W T E : Type 0} → (W → Option (List ℕ)) → (W → ℕ) → (W → ℕ → Type 0) → W → W → Result T E → List ℕ → Type 0
 Appends written faults has_room before after result text =

@@ -37,13 +37,13 @@ abbrev pub candidate : String → Kind → ℕ → ℕ → Candidate
 candidate name kind at price = record { name = codes name; kind = kind; at = at; price = price }
 
 -- a tab in the place of a blank
-abbrev pub tabbed : ℕ → ℕ
-tabbed byte = if byte == 0x20 then 0x09 else byte
+abbrev pub tab_for_blank : ℕ → ℕ
+tab_for_blank byte = if byte == 0x20 then 0x09 else byte
 
 -- printed lines, each written with a blank for each tab
 abbrev pub printed : List String → List ℕ
 printed [] = []
-printed (line ∷ lines) = map tabbed (codes line) ++ 0x0A ∷ printed lines
+printed (line ∷ lines) = map tab_for_blank (codes line) ++ 0x0A ∷ printed lines
 
 -- lines of an input, each with its line feed
 abbrev pub typed : List String → List ℕ

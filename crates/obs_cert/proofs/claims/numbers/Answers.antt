@@ -3,7 +3,7 @@ use Rattle.std.specs.Vec.{with_items}
 use Rattle.obs_network.specs.Network.{rows_of}
 use Rattle.obs_cert.specs.Flaws.{not_inside, outside_of, rank_of_items}
 use Rattle.obs_cert.specs.Numbered.{items_of}
-use Rattle.obs_cert.specs.inner.Ready.{IsReady}
+use Rattle.obs_cert.specs.inner.Ready.{IsReadyFor}
 use Rattle.obs_cert.specs.Scopes.{scope_of}
 use Rattle.obs_cert.specs.inner.Scopes.{OfItems}
 use Rattle.obs_cert.specs.inner.Walked.{parts_in}
@@ -45,7 +45,7 @@ returns-clause-flaw c test is of inside =
     bound_right c.args.present.now test (items_of c.args.present.now (parts_in c.args.rest.now).inside) c.args.stated.rank c.args.stated.outside c.args.stated.need (rank_is at)
     (outside_is at test is of inside ∙ c.if-from-stated-2.false) (grind (arith, s, f, h, few))
 
-ready : (c : After-measure_listed-rank) (stamp : ℕ) → IsReady c.args.present.now stamp c.args.work.now → IsReady c.args.present.now stamp (record c.args.work.now {
+ready : (c : After-measure_listed-rank) (stamp : ℕ) → IsReadyFor c.args.present.now stamp c.args.work.now → IsReadyFor c.args.present.now stamp (record c.args.work.now {
   hubs = c.measure_listed-rank.new.hubs;
   stars = with_items c.args.work.now.stars c.measure_listed-rank.new.stars;
   ups = with_items c.args.work.now.ups c.measure_listed-rank.new.ups;

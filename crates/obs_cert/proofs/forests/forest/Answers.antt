@@ -2,18 +2,18 @@ use Rattle.std.proofs.Common.{[], ℕ, length, ap, ◌∙◌}
 use Rattle.std.specs.Vec.{with_items}
 use Rattle.obs_network.specs.Network.{rows_of}
 use Rattle.obs_cert.specs.inner.Joins.{AreJoined}
-use Rattle.obs_cert.specs.inner.Ready.{HasRoom, IsReady}
+use Rattle.obs_cert.specs.inner.Ready.{HasRoomForRows, IsReadyFor}
 use Rattle.obs_cert.proofs.ClaimLemmas.{clear_joined, free_of, ready_joined, room_joined}
 use Rattle.obs_cert.proofs.forests.forest.Goals as goal
 use Rattle.obs_cert.proofs.forests.forest.Goals.{After-measure_pairs-forest}
 
-room : (c : After-measure_pairs-forest) → HasRoom (rows_of c.args.present.now)
+room : (c : After-measure_pairs-forest) → HasRoomForRows (rows_of c.args.present.now)
     (record c.args.work.now { ups = with_items c.args.work.now.ups c.measure_pairs-forest.new.ups; moved = with_items c.args.work.now.moved c.measure_pairs-forest.new.moved })
 room c =
     let j = c.measure_pairs-forest in
     room_joined (rows_of c.args.present.now) c.args.work.now j.new.ups j.new.moved c.requires.room (j.auto.ups ∙ ap length c.deref_mut.ensures.value) (j.auto.moved ∙ ap length c.deref_mut-2.ensures.value)
 
-ready : (c : After-measure_pairs-forest) (stamp : ℕ) → IsReady c.args.present.now stamp c.args.work.now → IsReady c.args.present.now stamp
+ready : (c : After-measure_pairs-forest) (stamp : ℕ) → IsReadyFor c.args.present.now stamp c.args.work.now → IsReadyFor c.args.present.now stamp
     (record c.args.work.now { ups = with_items c.args.work.now.ups c.measure_pairs-forest.new.ups; moved = with_items c.args.work.now.moved c.measure_pairs-forest.new.moved })
 ready c stamp r =
     let j = c.measure_pairs-forest in

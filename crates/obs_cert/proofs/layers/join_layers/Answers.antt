@@ -9,7 +9,7 @@ use Rattle.obs_cert.specs.Flaws.{rank_of_items}
 use Rattle.obs_cert.specs.inner.Given.{layer_said}
 use Rattle.obs_cert.specs.inner.Joins.{AreJoined, onto}
 use Rattle.obs_cert.specs.Numbered.{items_of}
-use Rattle.obs_cert.specs.Scopes.{touches_of}
+use Rattle.obs_cert.specs.Scopes.{item_touches}
 use Rattle.obs_cert.proofs.CaseLemmas.{contracted_noted, rank_nothing, vertices_fit}
 use Rattle.obs_cert.proofs.LayerLemmas.{IsRanking, joined_now, ranking_on, ranking_wrong}
 use Rattle.obs_cert.proofs.layers.join_layers.Goals as goal
@@ -25,7 +25,7 @@ here c =
     subst (λ (ls : List Layer). IsRanking c.args.present.now (contracted_ends Nothing (case_branches c.args.present.now)) ls c.args.layers l.ups l.moved l.count l.wrong) c.in-Some.ensures.steps l.invariant.0
 
 step : (c : After-join_items-count) → (es : List Ends) → AreJoined es c.loop-layer.ups (take c.loop-layer.count c.loop-layer.moved)
-    → AreJoined (onto (contracted_ends Nothing (case_branches c.args.present.now)) (flat_map (touches_of c.args.present.now) (items_of c.args.present.now (layer_said c.in-Some.layer).inside)) es)
+    → AreJoined (onto (contracted_ends Nothing (case_branches c.args.present.now)) (flat_map (item_touches c.args.present.now) (items_of c.args.present.now (layer_said c.in-Some.layer).inside)) es)
     c.join_items-count.new.ups (take c.join_items-count.result c.join_items-count.new.moved)
 step c = rw (sym c.walk_items-items.ensures.items) c.join_items-count.ensures.joined
 
@@ -35,7 +35,7 @@ is_rank c =
     let j = c.join_items-count in
     let t = c.args.present.now in
     let h = here c in
-    let ps = flat_map (touches_of t) (h.before ++ items_of t (layer_said c.in-Some.layer).inside) in
+    let ps = flat_map (item_touches t) (h.before ++ items_of t (layer_said c.in-Some.layer).inside) in
     contracted_noted t Nothing ps j.new.ups j.new.moved j.result c.join_items-count.ensures.valid tt (omega (arith, c.requires.free.vertices, l.auto.ups, j.auto.ups)) j.ensures.count
     (joined_now t (contracted_ends Nothing (case_branches c.args.present.now)) (layer_said c.in-Some.layer) c.next.new.self c.args.layers l.ups l.moved l.count l.wrong j.new.ups j.new.moved j.result h j.ensures.count (step c))
     ∙ rank_nothing t ps
@@ -83,7 +83,7 @@ pub join_items-count-requires-clause-ways : goal.join_items-count-requires-claus
 join_items-count-requires-clause-ways c =
     let i = c.loop-layer.invariant.0 in
     record {
-      joined = (onto (contracted_ends Nothing (case_branches c.args.present.now)) (flat_map (touches_of c.args.present.now) i.before) [], i.joined);
+      joined = (onto (contracted_ends Nothing (case_branches c.args.present.now)) (flat_map (item_touches c.args.present.now) i.before) [], i.joined);
       room = omega (arith, c.requires.free.room, c.loop-layer.auto.ups, c.loop-layer.auto.moved);
       fits = i.fits;
     }

@@ -6,14 +6,14 @@ use Rattle.obs_cert.specs.inner.Contractions.{contracted_ends}
 use Rattle.obs_cert.specs.Claims.{Item}
 use Rattle.obs_cert.specs.Numbered.{item_of, items_of}
 use Rattle.obs_cert.specs.inner.Said.{item_said}
-use Rattle.obs_cert.specs.Scopes.{touches_of}
+use Rattle.obs_cert.specs.Scopes.{item_touches}
 use Rattle.obs_cert.proofs.JoinLemmas.{IsJoining, joining_end, joining_none, joining_some}
 use Rattle.obs_cert.proofs.lists.join_items.Goals as goal
 
 pub loop-item-init : goal.loop-item-init
 loop-item-init c =
     rw c.into_iter-item-iterator.ensures.into_iter_gives (
-      joining_none (contracted_ends c.args.contraction (case_branches c.args.present.now)) (flat_map (touches_of c.args.present.now) (items_of c.args.present.now c.args.items)) c.args.ups.now c.args.moved.now c.args.count c.requires.ways.fits,
+      joining_none (contracted_ends c.args.contraction (case_branches c.args.present.now)) (flat_map (item_touches c.args.present.now) (items_of c.args.present.now c.args.items)) c.args.ups.now c.args.moved.now c.args.count c.requires.ways.fits,
       c.requires.hubs,
       refl,
     )
@@ -36,11 +36,11 @@ loop-item-preserved c =
     let case = c.args.present.now in
     let ends = (contracted_ends c.args.contraction (case_branches c.args.present.now)) in
     let m = item_of case (item_said c.in-Some.item) in
-    let all = flat_map (touches_of case) (items_of case c.args.items) in
-    let left = flat_map (touches_of case) (items_of case c.next.new.self) in
-    let i : IsJoining ends (touches_of case m ++ left) all c.args.ups.now c.args.moved.now c.args.count l.ups l.moved l.count =
-    subst (λ (is : List Item). IsJoining ends (flat_map (touches_of case) (items_of case is)) all c.args.ups.now c.args.moved.now c.args.count l.ups l.moved l.count) c.in-Some.ensures.steps l.invariant.0 in (
-      joining_some ends (touches_of case m) left all c.args.ups.now c.args.moved.now c.args.count l.ups l.moved l.count
+    let all = flat_map (item_touches case) (items_of case c.args.items) in
+    let left = flat_map (item_touches case) (items_of case c.next.new.self) in
+    let i : IsJoining ends (item_touches case m ++ left) all c.args.ups.now c.args.moved.now c.args.count l.ups l.moved l.count =
+    subst (λ (is : List Item). IsJoining ends (flat_map (item_touches case) (items_of case is)) all c.args.ups.now c.args.moved.now c.args.count l.ups l.moved l.count) c.in-Some.ensures.steps l.invariant.0 in (
+      joining_some ends (item_touches case m) left all c.args.ups.now c.args.moved.now c.args.count l.ups l.moved l.count
           c.join_item-count.new.ups c.join_item-count.new.moved c.join_item-count.result i
           c.join_item-count.ensures.count c.join_item-count.auto.ups c.join_item-count.auto.moved
           (rw (sym (c.item_of.ensures.number ∙ ap (λ (t : Tables). item_of t (item_said c.in-Some.item)) c.case-case.ensures.case)) c.join_item-count.ensures.joined),
@@ -53,7 +53,7 @@ returns c =
     let l = c.loop-item in
     let case = c.args.present.now in
     let ends = (contracted_ends c.args.contraction (case_branches c.args.present.now)) in
-    let all = flat_map (touches_of case) (items_of case c.args.items) in
+    let all = flat_map (item_touches case) (items_of case c.args.items) in
     let i : IsJoining ends [] all c.args.ups.now c.args.moved.now c.args.count l.ups l.moved l.count =
-    subst (λ (is : List Item). IsJoining ends (flat_map (touches_of case) (items_of case is)) all c.args.ups.now c.args.moved.now c.args.count l.ups l.moved l.count) c.in-None.ensures.steps l.invariant.0 in
+    subst (λ (is : List Item). IsJoining ends (flat_map (item_touches case) (items_of case is)) all c.args.ups.now c.args.moved.now c.args.count l.ups l.moved l.count) c.in-None.ensures.steps l.invariant.0 in
     record { joined = joining_end ends all c.args.ups.now c.args.moved.now c.args.count l.ups l.moved l.count i; count = i.fits; hubs = l.invariant.1; hub_room = l.invariant.2; valid = c.case-case.ensures.valid }

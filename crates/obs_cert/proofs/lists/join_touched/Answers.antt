@@ -6,7 +6,7 @@ use Rattle.obs_meter.specs.Touches.{touch_at}
 use Rattle.obs_network.specs.Network.{Network, case_branches, case_offered}
 use Rattle.obs_cert.specs.inner.Contractions.{FitsIn, contracted_ends}
 use Rattle.obs_cert.specs.inner.Joins.{AreJoined, onto}
-use Rattle.obs_cert.specs.Scopes.{touches_of}
+use Rattle.obs_cert.specs.Scopes.{item_touches}
 use Rattle.obs_cert.proofs.ContractionLemmas.{fits_case}
 use Rattle.obs_cert.proofs.lists.join_touched.Goals as goal
 
@@ -27,7 +27,7 @@ returns-then-m-count-clause-joined c = λ es joined.
     let items : c.offered-then-m-count.result.now.touches ≡ case_offered t = ap (λ (i : Meters). i.touches) (c.offered-then-m-count.ensures.offered ∙ ap (λ (n : Network). n.offered) c.network-network.ensures.network) in
     let touched = c.touch-touched.ensures.touched ∙ ap (λ ends. touch_at ends c.offered-then-m-count.result.now.touches c.args.m) graph ∙ ap (λ ts. touch_at (case_branches t) ts c.args.m) items in
     let seen = contracted_ends c.args.contraction in
-    subst (λ (ends : List (Option Ends)). AreJoined (onto (seen ends) (touches_of t c.args.m) es) j.new.ups (take j.result j.new.moved)) again
+    subst (λ (ends : List (Option Ends)). AreJoined (onto (seen ends) (item_touches t c.args.m) es) j.new.ups (take j.result j.new.moved)) again
     (subst (λ (ts : List ℕ). AreJoined (onto (seen c.graph-then-m-count.result.now.ends) ts es) j.new.ups (take j.result j.new.moved)) touched (j.ensures.joined es joined))
 
 pub join_all-requires-clause-fits : goal.join_all-requires-clause-fits

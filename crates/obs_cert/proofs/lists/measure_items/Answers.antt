@@ -3,7 +3,7 @@ use Rattle.std.specs.List.{flat_map}
 use Rattle.obs_network.specs.Network.{case_branches, network_of}
 use Rattle.obs_cert.specs.inner.Contractions.{contracted_ends}
 use Rattle.obs_cert.specs.Numbered.{items_of}
-use Rattle.obs_cert.specs.Scopes.{touches_of}
+use Rattle.obs_cert.specs.Scopes.{item_touches}
 use Rattle.obs_cert.proofs.CaseLemmas.{contracted_noted, noted_few, vertices_fit}
 use Rattle.obs_cert.proofs.ContractionLemmas.{fits_room, hubs_begun}
 use Rattle.obs_cert.proofs.lists.measure_items.Goals as goal
@@ -21,13 +21,13 @@ pub overflow_cast-result : goal.overflow_cast-result
 overflow_cast-result c =
     let j = c.join_items-count in
     let ends = contracted_ends c.args.contraction (case_branches c.args.present.now) in
-    let few = noted_few ends (flat_map (touches_of c.args.present.now) (items_of c.args.present.now c.args.items)) j.new.ups j.new.moved j.result j.ensures.count (j.ensures.joined [] c.requires.free.clear) in
+    let few = noted_few ends (flat_map (item_touches c.args.present.now) (items_of c.args.present.now c.args.items)) j.new.ups j.new.moved j.result j.ensures.count (j.ensures.joined [] c.requires.free.clear) in
     omega (arith, few, c.requires.free.few, j.auto.ups)
 
 pub returns-clause-rank : goal.returns-clause-rank
 returns-clause-rank c =
     let j = c.join_items-count in
-    contracted_noted c.args.present.now c.args.contraction (flat_map (touches_of c.args.present.now) (items_of c.args.present.now c.args.items)) j.new.ups j.new.moved j.result
+    contracted_noted c.args.present.now c.args.contraction (flat_map (item_touches c.args.present.now) (items_of c.args.present.now c.args.items)) j.new.ups j.new.moved j.result
     j.ensures.valid c.requires.contraction (omega (arith, c.requires.free.vertices, j.auto.ups)) j.ensures.count (j.ensures.joined [] c.requires.free.clear)
 
 pub join_items-count-requires-clause-hubs : goal.join_items-count-requires-clause-hubs

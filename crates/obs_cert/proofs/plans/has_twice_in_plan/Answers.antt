@@ -1,6 +1,6 @@
 use Rattle.std.proofs.Common.{length, sym, ap, ◌∙◌}
 use Rattle.obs_cert.specs.Flaws.{all_inside, paired_twice, twice}
-use Rattle.obs_cert.specs.Numbered.{chosen_items, items_of}
+use Rattle.obs_cert.specs.Numbered.{candidate_items, items_of}
 use Rattle.obs_cert.specs.inner.Walked.{parts_in}
 use Rattle.obs_cert.proofs.ClaimLemmas.{ready_plan, three_same}
 use Rattle.obs_cert.proofs.plans.has_twice_in_plan.Goals as goal
@@ -10,7 +10,7 @@ returns-clause-twice c number =
     let t = c.args.case.now in
     let parts = parts_in c.args.rest.now in
     c.either.ensures.either
-    ∙ three_same c.has_twice-chosen_twice.result (twice (items_of t (chosen_items parts.chosen))) c.has_pair_twice-pair_twice.result (paired_twice t parts.pairs) c.has_twice-listed_twice.result (twice (items_of t (all_inside parts.layers)))
+    ∙ three_same c.has_twice-chosen_twice.result (twice (items_of t (candidate_items parts.chosen))) c.has_pair_twice-pair_twice.result (paired_twice t parts.pairs) c.has_twice-listed_twice.result (twice (items_of t (all_inside parts.layers)))
     (rw (sym c.walk_items-chosen.ensures.items) c.has_twice-chosen_twice.ensures.twice) c.has_pair_twice-pair_twice.ensures.twice
     (rw (sym c.walk_items-listed.ensures.items) c.has_twice-listed_twice.ensures.twice)
 

@@ -1,8 +1,8 @@
 use Rattle.std.proofs.Common.{◌≡◌, ℕ, ◌||◌, Bool, true, false, suc, refl, sym, ap, ◌∙◌, subst}
 use Rattle.obs_case.specs.Tables.{Tables}
-use Rattle.obs_cert.specs.inner.Ready.{IsReady}
+use Rattle.obs_cert.specs.inner.Ready.{IsReadyFor}
 use Rattle.obs_cert.specs.Flaws.{all_inside, layers_clauses, not_touched, paired_twice, twice, outside_of_plan, twice_in_plan, unknown_in_plan}
-use Rattle.obs_cert.specs.Numbered.{chosen_items, items_of, pairs_of}
+use Rattle.obs_cert.specs.Numbered.{candidate_items, items_of, pairs_of}
 use Rattle.obs_cert.specs.inner.Walked.{cost_of, parts_in}
 use Rattle.obs_network.specs.Network.{Network, case_needed, network_of}
 use Rattle.obs_cert.specs.Flaws.{first_true, forest_clauses}
@@ -22,8 +22,8 @@ touched c = rw (sym c.walk_pairs.ensures.pairs) c.has_untouched.ensures.untouche
 again : (c : After-has_twice_in_plan-twice) → c.has_twice_in_plan-twice.result ≡ twice_in_plan c.args.present.now (cost_of c.args.number (parts_in c.args.rest.now))
 again c = c.has_twice_in_plan-twice.ensures.twice c.args.number ∙ ap (λ (x : Tables). twice_in_plan x (cost_of c.args.number (parts_in c.args.rest.now))) c.case-case.ensures.case
 
-ready : (c : After-has_twice_in_plan-twice) → IsReady c.args.present.now (suc c.args.stamp) c.has_twice_in_plan-twice.new.work
-ready c = subst (λ (x : Tables). IsReady x (suc c.args.stamp) c.has_twice_in_plan-twice.new.work) c.case-case.ensures.case c.has_twice_in_plan-twice.ensures.ready
+ready : (c : After-has_twice_in_plan-twice) → IsReadyFor c.args.present.now (suc c.args.stamp) c.has_twice_in_plan-twice.new.work
+ready c = subst (λ (x : Tables). IsReadyFor x (suc c.args.stamp) c.has_twice_in_plan-twice.new.work) c.case-case.ensures.case c.has_twice_in_plan-twice.ensures.ready
 
 need_is : (t : Tables) (n : Network) (k : ℕ) → n ≡ network_of t → k ≡ n.needed → case_needed t ≡ k
 need_is t n k is same = sym (same ∙ ap (λ (m : Network). m.needed) is)
@@ -128,5 +128,5 @@ pub layers-requires-clause-once : goal.layers-requires-clause-once
 layers-requires-clause-once c =
     let t = c.args.present.now in
     let parts = parts_in c.args.rest.now in
-    last_false (twice (items_of t (chosen_items parts.chosen))) (paired_twice t parts.pairs) (twice (items_of t (all_inside parts.layers)))
+    last_false (twice (items_of t (candidate_items parts.chosen))) (paired_twice t parts.pairs) (twice (items_of t (all_inside parts.layers)))
     (sym (again (goal.at.layers-requires-clause-once c).After-has_twice_in_plan-twice) ∙ c.if-twice.false)

@@ -8,7 +8,7 @@ use Rattle.obs_cert.specs.declared.contraction.Contraction.TheVariants.{Nothing,
 use Rattle.obs_cert.specs.inner.Contractions.{contracted_rank}
 use Rattle.obs_cert.specs.Flaws.{rank_of_items}
 use Rattle.obs_cert.specs.Numbered.{items_of}
-use Rattle.obs_cert.specs.Scopes.{touches_of}
+use Rattle.obs_cert.specs.Scopes.{item_touches}
 use Rattle.obs_cert.specs.inner.Walked.{parts_in}
 use Rattle.obs_cert.proofs.CaseLemmas.{rank_nothing}
 use Rattle.obs_cert.proofs.ContractionLemmas.{rank_contracted}
@@ -31,7 +31,7 @@ pub overflow_add-result : goal.overflow_add-result
 overflow_add-result c =
     let t = c.args.present.now in
     let rank = both (goal.at.overflow_add-result c).After-measure_items in
-    let most = rank-le-n (case_vertex_count t) (ends_of (case_branches t) (flat_map (touches_of t) (items_of t (parts_in c.args.rest.now).inside))) in
+    let most = rank-le-n (case_vertex_count t) (ends_of (case_branches t) (flat_map (item_touches t) (items_of t (parts_in c.args.rest.now).inside))) in
     let room = case_vertex_count-le t in
     omega (arith, rank, most, room, c.requires.free.vertices, c.requires.free.few)
 
@@ -42,7 +42,7 @@ pub returns-in-None-clause-rank : goal.returns-in-None-clause-rank
 returns-in-None-clause-rank c =
     let t = c.args.present.now in
     c.measure_items-in-None.ensures.rank ∙ ap (λ items. contracted_rank t Nothing (items_of t items)) c.walk_items-items.ensures.items
-    ∙ rank_nothing t (flat_map (touches_of t) (items_of t (parts_in c.args.rest.now).inside))
+    ∙ rank_nothing t (flat_map (item_touches t) (items_of t (parts_in c.args.rest.now).inside))
 
 pub measure_items-requires-clause-free : goal.measure_items-requires-clause-free
 measure_items-requires-clause-free c =

@@ -9,7 +9,7 @@ use Rattle.obs_meter.specs.declared.Touch.TheVariants.{Nothing}
 use Rattle.obs_meter.specs.Held.{Meters}
 use Rattle.obs_meter.specs.inner.Touches.{hub_of}
 use Rattle.obs_network.specs.Network.{Network, case_branches, case_offered, case_rows}
-use Rattle.obs_cert.specs.Scopes.{touches_of}
+use Rattle.obs_cert.specs.Scopes.{item_touches}
 use Rattle.obs_cert.proofs.StarLemmas.{rows_at_hub}
 use Rattle.obs_cert.proofs.stars.star_of.Goals as goal
 use Rattle.obs_cert.proofs.stars.star_of.Goals.{After-hub}
@@ -20,7 +20,7 @@ low c =
     omega (arith, c.if-m-count.false, c.count.ensures.count, ap (λ (ts : List Touch). length ts) items)
 
 rows : (t : Tables) (hub : Option Hub) → IsValid t → (m : _) → m < length (case_offered t) → hub ≡ hub_of (case_branches t) (slice_index_or (case_offered t) m Nothing)
-    → IfSome hub (λ h. touches_of t m ≡ branches_at (case_rows t) h.vertex)
+    → IfSome hub (λ h. item_touches t m ≡ branches_at (case_rows t) h.vertex)
 rows t None valid m l is = tt
 rows t (Some h) valid m l is = rows_at_hub t valid m l h (sym is)
 

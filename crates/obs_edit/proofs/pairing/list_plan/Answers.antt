@@ -1,7 +1,7 @@
 use Rattle.std.proofs.Common.{◌+◌, ◌∙◌, get_or, length, set, ap, sym, take, arith}
 use Rattle.std.proofs.lemmas.List.{length-set}
 use Rattle.obs_meter.specs.Held.{Meters}
-use Rattle.obs_edit.specs.Planned.{planned_items, touches_of}
+use Rattle.obs_edit.specs.Planned.{listed_touches, planned_items}
 use Rattle.obs_edit.proofs.Planned.{plan-begun, plan-more}
 use Rattle.obs_edit.proofs.pairing.list_plan.Goals as goal
 
@@ -25,7 +25,7 @@ loop-k-preserved c =
     record {
       planned = is
           ∙ (ap (λ xs. set xs m c.kind.result) l.invariant.planned
-          ∙ (ap (set (touches_of c.args.offered.now.touches (planned_items c.args.meters (take l.k-index c.args.chosen.now))) m) c.kind.ensures.kind
+          ∙ (ap (set (listed_touches c.args.offered.now.touches (planned_items c.args.meters (take l.k-index c.args.chosen.now))) m) c.kind.ensures.kind
           ∙ sym (plan-more c.args.offered.now.touches c.args.meters c.args.chosen.now l.k-index c.loop-k-test.true)));
       one_each = ap length is ∙ (length-set l.items.touches m c.kind.result ∙ l.invariant.one_each);
       most = ap (λ (i : Meters). i.most) c.set-in-loop-k.ensures.set ∙ l.invariant.most;

@@ -1,7 +1,7 @@
 use Rattle.std.proofs.Common.{◌≡◌, ◌<◌, ℕ, cond, not, get_or, length, take}
 use Rattle.std.specs.Prelude.{nat_lt}
 use Rattle.obs_meter.specs.declared.Touch.TheVariants.{Nothing}
-use Rattle.obs_edit.specs.Planned.{planned_items, touches_of}
+use Rattle.obs_edit.specs.Planned.{listed_touches, planned_items}
 use Rattle.obs_edit.proofs.pairing.list_plan.Given as goal
 
 abbrev pub invariant-loop-m : goal.invariant-loop-m
@@ -13,7 +13,7 @@ invariant-loop-m l = record {
 
 abbrev pub invariant-loop-k : goal.invariant-loop-k
 invariant-loop-k l = record {
-  planned : l.items.touches ≡ touches_of l.offered.touches (planned_items l.meters (take l.k-index l.chosen));
+  planned : l.items.touches ≡ listed_touches l.offered.touches (planned_items l.meters (take l.k-index l.chosen));
   one_each : length l.items.touches ≡ length l.offered.touches;
   most : l.items.most ≡ l.fn.items.most;
 }

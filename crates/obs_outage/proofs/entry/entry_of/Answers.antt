@@ -7,7 +7,7 @@ use Rattle.obs_assign.specs.Assignment.{Assignment}
 use Rattle.obs_network.specs.Network.{Network, case_branches}
 use Rattle.obs_network.proofs.OfCase.{case_vertex_count-le, few_branches, length-case_branches}
 use Rattle.obs_network.specs.inner.Parted.{AreJoinedWithout}
-use Rattle.obs_kept.specs.inner.Kept.{AreLongestOver, HasRoom}
+use Rattle.obs_kept.specs.inner.Kept.{AreLongestOver, HasRoomOver}
 use Rattle.obs_outage.specs.inner.Outages.{AllStand}
 use Rattle.obs_outage.proofs.Crossed.{missed_by}
 use Rattle.obs_outage.proofs.Joined.{entry_by, rank_alone, same_by_walk}
@@ -101,6 +101,6 @@ returns g c =
       case = after.case;
       basis = basis_again t b1 b k1 b1.without c.walk.new.self
           (ready_again b1.kept b1.without b1.spared b.basis.ready k1 b1.without same (subst (λ (x : Network). AreLongestOver x k1.pairs) (sym b.network) after.kept.longest)
-          (subst (λ (x : Network). HasRoom x k1.pairs k1.work) same after.kept.room) b.basis.ready.copy)
+          (subst (λ (x : Network). HasRoomOver x k1.pairs k1.work) same after.kept.room) b.basis.ready.copy)
           same c.walk.ensures.room;
     }

@@ -1,7 +1,7 @@
 use Rattle.std.proofs.Common.{◌∙◌, sym, ap, subst, length, Bool, List, arith}
 use Rattle.obs_assign.specs.Assignment.{Assignment}
 use Rattle.obs_meter.specs.Held.{Meters}
-use Rattle.obs_repair.specs.inner.Kept.{AreLongest}
+use Rattle.obs_kept.specs.inner.Kept.{AreLongest}
 use Rattle.obs_repair.specs.inner.Bounds.{AreMarks}
 use Rattle.obs_repair.proofs.Bounded.{critical_of_network, marks_of_network}
 use Rattle.obs_network.proofs.OfCase.{length-case_meters}

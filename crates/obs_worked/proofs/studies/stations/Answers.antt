@@ -1,7 +1,0 @@
-use Rattle.std.specs.Prelude.{refl}
-use Rattle.obs_worked.proofs.Computed.{computed}
-use Rattle.obs_worked.proofs.studies.stations.Goals as goal
-
-pub returns : goal.returns
-unfolding computed
-returns c = record { printed = (refl, refl, refl, refl) }
