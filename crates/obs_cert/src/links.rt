@@ -1,7 +1,6 @@
 // Whether a row of the branch table leads between two vertices, by numbers that are sorted once for all claims.
 ghost use Rattle.std.specs.Prelude.{◌≡◌, length};
 ghost use Rattle.std.specs.List.Sorted.{IsNonDecreasing};
-ghost use Rattle.obs_case.specs.Tables.{IsValid};
 ghost use Rattle.obs_meter.specs.Lost.{is_listed};
 ghost use Rattle.obs_cert.specs.inner.Links.{AreLinks, link, link_of, links_of};
 

@@ -1,5 +1,5 @@
 // Passes over the pairs of a claim, one clause each.
-ghost use Rattle.std.specs.Prelude.{◌≡◌, ◌≤◌, ◌<◌, ◌^◌, ◌==◌, ◌+◌, ◌⊎◌, suc, None, List, [], length, not, slice_index_or, take};
+ghost use Rattle.std.specs.Prelude.{◌≡◌, ◌≤◌, ◌<◌, ◌==◌, ◌+◌, ◌⊎◌, suc, None, List, [], length, not, slice_index_or, take};
 ghost use Rattle.std.specs.List.{cons_option};
 ghost use Rattle.obs_graph.specs.declared.Ends.{Ends};
 ghost use Rattle.obs_matroid.specs.Assignments.{branches};

@@ -27,7 +27,6 @@ use Rattle.obs_script.specs.declared.command.Ask.{Ask}
 use Rattle.obs_engine.specs.Claimed.{AnswersAreVerified, AnswersFit, AreClaimed}
 use Rattle.obs_engine.specs.Commands.{IsCaseReply}
 use Rattle.obs_files.specs.Files.{certificate_in, is_too_long}
-use Rattle.obs_files.specs.Limits.{IsLimits, Limits}
 use Rattle.obs_engine.specs.Replies.{IsReplyTo}
 use Rattle.obs_engine.specs.Verify.{verify_reply}
 use Rattle.obs_files.specs.Words.{certificate_at}

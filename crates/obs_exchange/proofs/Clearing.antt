@@ -1,5 +1,5 @@
 -- Arrays that are set back to what they begin with.
-use Rattle.std.proofs.Common.{◌≡◌, ◌≢◌, ℕ, zero, suc, ◌+◌, ◌<◌, ◌≤◌, Bool, true, false, List, [], ◌∷◌, length, replicate, take, get_or, set, refl, sym, ap, ◌∙◌, inl, inr, arith, length-set}
+use Rattle.std.proofs.Common.{◌≡◌, ℕ, zero, suc, ◌+◌, ◌<◌, ◌≤◌, Bool, true, false, List, [], ◌∷◌, length, replicate, take, get_or, set, refl, sym, ap, ◌∙◌, inl, inr, arith, length-set}
 use Rattle.obs_assign.proofs.Keeping.{replicate_at}
 use Rattle.std.proofs.lemmas.Bool.{cases_eq}
 use Rattle.std.proofs.lemmas.List.{take-replicate, get_or-set_same, get_or-set_other}

@@ -6,7 +6,7 @@ use crate::flags::Flags;
 use crate::memory::NoMemory;
 use crate::sides::Sides;
 use obs_assign::Assignment;
-use obs_graph::Graph;
+use obs_graph::{Ends, Graph};
 use obs_meter::{Meters, Touch};
 use std::alloc::Global;
 
@@ -16,21 +16,26 @@ const MOST_LOOKS: usize = 20000;
 /// No meter.
 const NONE: u32 = u32::MAX;
 
-/// What a look back is over: a graph, meters, pairs, and the meters that may be reached.
+/// What stands behind a meter that isn't listed.
+const UNLISTED: u32 = u32::MAX - 1;
+
+/// What a look back is over: a graph, meters, pairs, and whether all meters may be reached, or those that are loose.
 #[derive(Clone, Copy)]
 pub(crate) struct Ground<'a> {
     pub graph: &'a Graph,
     pub meters: &'a Meters,
     pub pairs: &'a Assignment,
+    pub all: bool,
     pub loose: &'a [bool],
 }
 
 /// By vertex the first meter that touches branches there, by branch the first that touches it alone, and by meter the
-/// next one there.
+/// next one there; and whether they are to be listed anew.
 pub(crate) struct Touching {
     at: Vec<u32>,
     on: Vec<u32>,
     next: Vec<u32>,
+    stale: bool,
 }
 
 /// The meters that lead to the one that is to lose its pair, in the order in which they were reached, and by meter the
@@ -59,6 +64,7 @@ impl Drop for Touching {
             at: _,
             on: _,
             next: _,
+            stale: _,
         } = self;
     }
 }
@@ -117,7 +123,8 @@ impl Touching {
         Ok(Touching {
             at: vec![in alloc; NONE; most_vertices as usize]?,
             on: vec![in alloc; NONE; most_branches as usize]?,
-            next: vec![in alloc; NONE; most_meters as usize]?,
+            next: vec![in alloc; UNLISTED; most_meters as usize]?,
+            stale: true,
         })
     }
 
@@ -125,14 +132,24 @@ impl Touching {
     fn list(&mut self, ms: &Meters) {
         self.at.fill(NONE);
         self.on.fill(NONE);
+        self.next.fill(UNLISTED);
         for m in 0..ms.count() {
-            match ms.kind(m) {
-                Touch::Nothing => {}
-                Touch::Edge(e) => put_front(&mut self.on, &mut self.next, e, m),
-                Touch::Star(v) => put_front(&mut self.at, &mut self.next, v, m),
-                Touch::Front { at: v, count: _ } => {
-                    put_front(&mut self.at, &mut self.next, v, m);
-                }
+            self.put(ms.kind(m), m);
+        }
+        self.stale = false;
+    }
+
+    /// Lists a meter that touches this, where it isn't listed.
+    fn put(&mut self, touch: Touch, m: u32) {
+        if noted(&self.next, m) != UNLISTED {
+            return;
+        }
+        match touch {
+            Touch::Nothing => {}
+            Touch::Edge(e) => put_front(&mut self.on, &mut self.next, e, m),
+            Touch::Star(v) => put_front(&mut self.at, &mut self.next, v, m),
+            Touch::Front { at: v, count: _ } => {
+                put_front(&mut self.at, &mut self.next, v, m);
             }
         }
     }
@@ -172,13 +189,12 @@ impl Reached {
         true
     }
 
-    /// Begins at a meter.
-    fn begin(&mut self, m: u32) {
+    /// Reaches nothing.
+    fn begin(&mut self) {
         self.search = self.search.wrapping_add(1);
         self.tail = 0;
         self.looks = 0;
         self.source = NONE;
-        let _ = self.put(m, NONE);
     }
 
     /// Goes on by so many branches.
@@ -198,9 +214,9 @@ impl Reached {
         if x >= ground.meters.count() || ground.pairs.frozen(x) {
             return;
         }
-        let Some(true) = ground.loose.get(x as usize) else {
+        if !ground.all && !is_loose(ground.loose, x) {
             return;
-        };
+        }
         if self.put(x, next) && ground.pairs.branch_of(x).is_none() {
             self.source = x;
         }
@@ -215,15 +231,23 @@ impl Reached {
         }
         let mut x = first;
         for _ in 0..MOST_LOOKS {
-            if self.is_over() || x >= ground.meters.count() {
+            if self.is_over() || x == NONE {
                 return;
             }
             self.look(1);
-            if ground.meters.is_touched(ground.graph, x, e) {
+            if x < ground.meters.count() && ground.meters.is_touched(ground.graph, x, e) {
                 self.reach(ground, x, next);
             }
             x = noted(touching, x);
         }
+    }
+}
+
+/// Whether the meter is flagged as loose.
+fn is_loose(loose: &[bool], x: u32) -> bool {
+    match loose.get(x as usize) {
+        Some(flag) => *flag,
+        None => false,
     }
 }
 
@@ -289,14 +313,14 @@ impl Back {
         }
     }
 
-    /// Reaches what touches a branch from the one side of this meter's branch to the other.
-    fn reach_across(&mut self, ground: &Ground<'_>, d: u32, f: u32)
+    /// Reaches what touches a branch from the one side to the other, where these ends lie on two sides without the branch
+    /// f, for a meter that has f.
+    fn reach_across(&mut self, ground: &Ground<'_>, d: u32, f: u32, ends: Ends)
         requires stands { StandsOver ground.now.pairs.now ground.now.graph.now ground.now.meters.now.touches }
     {
-        if f >= ground.graph.positions() {
-            return;
-        }
-        let looks = self.sides.walk(ground.graph, ground.pairs, f, MOST_LOOKS);
+        let looks = self
+            .sides
+            .walk(ground.graph, ground.pairs, f, ends, MOST_LOOKS);
         self.reached.look(looks);
         for k in 0..MOST_LOOKS {
             if self.reached.is_over() {
@@ -313,14 +337,57 @@ impl Back {
         }
     }
 
+    /// Reaches what touches a branch from the one side of this meter's branch to the other.
+    fn reach_by(&mut self, ground: &Ground<'_>, d: u32, f: u32)
+        requires stands { StandsOver ground.now.pairs.now ground.now.graph.now ground.now.meters.now.touches }
+    {
+        if f >= ground.graph.positions() {
+            return;
+        }
+        if let Some(ends) = ground.graph.ends(f) {
+            self.reach_across(ground, d, f, ends);
+        }
+    }
+
     /// Looks back for a source from a meter that lost its pair with the branch f. Says whether there was none, where all
     /// that lead to it were looked at.
     pub(crate) fn look(&mut self, ground: &Ground<'_>, m: u32, f: u32) -> bool
         requires stands { StandsOver ground.now.pairs.now ground.now.graph.now ground.now.meters.now.touches }
     {
-        self.reached.begin(m);
-        self.reach_across(ground, m, f);
-        for head in 1..self.reached.queue.len() {
+        self.reached.begin();
+        let _ = self.reached.put(m, NONE);
+        self.reach_by(ground, m, f);
+        self.go_on(ground, 1)
+    }
+
+    /// The same from two ends that a pair joined which isn't there any more. The meters are listed by what they touch, where
+    /// that is to be done anew.
+    pub(crate) fn look_across(&mut self, ground: &Ground<'_>, ends: Ends) -> bool
+        requires stands { StandsOver ground.now.pairs.now ground.now.graph.now ground.now.meters.now.touches }
+    {
+        if self.touching.stale {
+            self.touching.list(ground.meters);
+        }
+        self.reached.begin();
+        self.reach_across(ground, NONE, NONE, ends);
+        self.go_on(ground, 0)
+    }
+
+    /// Notes that the meters are to be listed anew.
+    pub(crate) fn forget(&mut self) {
+        self.touching.stale = true;
+    }
+
+    /// Lists a meter that touches this.
+    pub(crate) fn put(&mut self, touch: Touch, m: u32) {
+        self.touching.put(touch, m);
+    }
+
+    /// Goes on at the meters that were reached, from the one at a place on.
+    fn go_on(&mut self, ground: &Ground<'_>, first: usize) -> bool
+        requires stands { StandsOver ground.now.pairs.now ground.now.graph.now ground.now.meters.now.touches }
+    {
+        for head in first..self.reached.queue.len() {
             if self.reached.is_over() {
                 return false;
             }
@@ -335,7 +402,7 @@ impl Back {
                 return false;
             }
             if let Some(f) = ground.pairs.branch_of(d) {
-                self.reach_across(ground, d, f);
+                self.reach_by(ground, d, f);
             }
         }
         false
@@ -349,19 +416,17 @@ impl Back {
         Some(self.reached.source)
     }
 
-    /// Where the last look back found a source, flags all meters but those on the way from there. Says whether it did.
-    pub(crate) fn leads_along(&self, shut: &mut Flags) -> bool
+    /// Where the last look back found a source, flags all meters but those on the way from there. Says which one.
+    pub(crate) fn leads_along(&self, shut: &mut Flags) -> Option<u32>
         ensures length { length shut.new ≡ length shut.old }
     {
-        if self.reached.source == NONE {
-            return false;
-        }
+        let source = self.source()?;
         shut.set_all();
         let mut x = self.reached.source;
         for _ in 0..self.reached.tail {
             shut.take_out(x);
             x = noted(&self.reached.next, x);
         }
-        true
+        Some(source)
     }
 }

@@ -38,8 +38,18 @@ impl Pass {
         }
     }
 
-    /// Goes on at the given meter, and at the one for which a search from all sources found the last of these pairs.
-    pub(crate) fn after(a: &Assignment, from: Sources, next: u32, searched: u32) -> Pass {
+    /// Goes on at the given meter, and at the one for which a search from all sources found the last of these pairs, but not
+    /// behind a search along a way.
+    pub(crate) fn after(
+        a: &Assignment,
+        from: Sources,
+        next: u32,
+        searched: u32,
+        along: Option<u32>,
+    ) -> Pass {
+        if along.is_some() {
+            return Pass::new();
+        }
         match from {
             Sources::All => Pass {
                 next,
@@ -62,14 +72,14 @@ impl Pass {
 
     /// Where a search begins. A pass over all sources counts anew where it begins, and a search from one meter where the
     /// pairs are fewer than at the search before. Nothing rests on the counts, nor on whether meters were shut, or all but
-    /// those along a way.
+    /// those along a way from a source.
     pub(crate) fn start(
         self,
         a: &Assignment,
         from: Sources,
         before: u32,
         shut: bool,
-        along: bool,
+        along: Option<u32>,
     ) -> Start
         ensures tried { first_of from ≤ result.tried }
         ensures searched { first_of from ≤ result.searched }
@@ -77,17 +87,25 @@ impl Pass {
         let pass = self.resumed(a);
         let pairs = a.length();
         match from {
-            Sources::All => Start {
-                tried: pass.next,
-                searched: pass.searched,
-                anew: pass.next == 0,
-                kept: shut && pass.pairs > 0,
+            Sources::All => match along {
+                Some(source) => Start {
+                    tried: u32::MAX,
+                    searched: source,
+                    anew: true,
+                    kept: true,
+                },
+                None => Start {
+                    tried: pass.next,
+                    searched: pass.searched,
+                    anew: pass.next == 0,
+                    kept: shut && pass.pairs > 0,
+                },
             },
             Sources::One(m) => Start {
                 tried: m,
                 searched: m,
                 anew: pairs == 0 || pairs < before,
-                kept: along,
+                kept: along.is_some(),
             },
         }
     }

@@ -21,7 +21,7 @@ use crate::scratch::Scratch;
 use crate::setting::Setting;
 use crate::{Found, Sources};
 use obs_assign::{Assignment, Move, Steps};
-use obs_graph::Graph;
+use obs_graph::{Ends, Graph};
 use obs_meter::{Meters, Touch};
 use std::alloc::Global;
 use std::marker::Model;
@@ -51,10 +51,10 @@ pub struct Work {
     back: Back,
     // where the next search begins to try sources
     pass: Pass,
-    // meters from which no path led, as long as pairs are only added, or all but those on a way back; and whether the
-    // next search is along such a way: a hint
+    // meters from which no path led, as long as pairs are only added, or all but those on a way back; and the source of
+    // this way, where the next search is along it: a hint
     shut: Flags,
-    along: bool,
+    along: Option<u32>,
 }
 
 impl Model for Work {
@@ -180,7 +180,7 @@ impl Work {
             back: Back::make(alloc, most_meters, most_branches, most_vertices)?,
             pass: Pass::new(),
             shut: Flags::make(alloc, most_meters)?,
-            along: false,
+            along: None,
         })
     }
 
@@ -264,12 +264,44 @@ impl Work {
             graph: g,
             meters: ms,
             pairs: a,
+            all: false,
             loose: &self.loose,
         };
         let none = self.back.look(&ground, m, f);
         self.along = self.back.leads_along(&mut self.shut);
         self.near.name_alone(self.back.source());
         none
+    }
+
+    /// Looks back for a source from two ends that a pair joined which isn't there any more. The next search goes along the
+    /// path from there first. Nothing rests on it.
+    pub fn look_across(&mut self, g: &Graph, ms: &Meters, a: &Assignment, ends: Ends)
+        requires stands { StandsOver a.now g.now ms.now.touches }
+        ensures same { self.new ≡ self.old }
+    {
+        let ground = Ground {
+            graph: g,
+            meters: ms,
+            pairs: a,
+            all: true,
+            loose: &[],
+        };
+        let _ = self.back.look_across(&ground, ends);
+        self.along = self.back.leads_along(&mut self.shut);
+    }
+
+    /// Lists a meter that touches this now, for `look_across`. Nothing rests on it.
+    pub fn put_touching(&mut self, touch: Touch, m: u32)
+        ensures same { self.new ≡ self.old }
+    {
+        self.back.put(touch, m);
+    }
+
+    /// Notes that meters touch something else than at the last `look_across`. Nothing rests on it.
+    pub fn forget_touching(&mut self)
+        ensures same { self.new ≡ self.old }
+    {
+        self.back.forget();
     }
 
     /// Notes a meter by what it touches, for `like`. Nothing rests on it.
@@ -364,10 +396,11 @@ impl Work {
     {
         let ms = picked(ms, &self.copy, copied);
         self.meters = ms.count() as usize;
+        let along = self.along;
         let start = self
             .pass
-            .start(a, from, self.pairs, self.shut.is_any(), self.along);
-        self.along = false;
+            .start(a, from, self.pairs, self.shut.is_any(), along);
+        self.along = None;
         self.pairs = a.length();
         let room = self.scratch.vertices();
         self.shut.clear_unless(start.kept);
@@ -383,7 +416,7 @@ impl Work {
                 let next = next_tried(path, ms.count());
                 shut_front(&mut self.shut, self.scratch.queue(), path);
                 let m = grow(g, ms, a, path, steps);
-                self.pass = Pass::after(a, from, next, m);
+                self.pass = Pass::after(a, from, next, m, along);
                 Found::Grown(m)
             }
             Err(count) => {

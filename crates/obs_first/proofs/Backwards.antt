@@ -1,5 +1,5 @@
 -- A meter to which no source leads is critical beside the frozen pairs.
-use Rattle.std.proofs.Common.{◌≡◌, ℕ, ◌<◌, ◌≤◌, Bool, true, false, Option, None, List, length, refl, sym, ap, ◌∙◌, inl, inr, arith}
+use Rattle.std.proofs.Common.{◌≡◌, ℕ, ◌<◌, ◌≤◌, Bool, true, false, List, length, refl, inl, inr, arith}
 use Rattle.std.proofs.lemmas.Bool.{cases_Bool}
 use Rattle.obs_graph.specs.Graph.{Graph}
 use Rattle.obs_graph.specs.Positions.{AreBranches}
@@ -7,7 +7,7 @@ use Rattle.obs_matroid.specs.Lists.{In}
 use Rattle.obs_matroid.specs.Assignments.{Pair, items}
 use Rattle.obs_matroid.proofs.Closed.{least_not_frozen}
 use Rattle.obs_matroid.specs.inner.Closed.{every}
-use Rattle.obs_matroid.proofs.Lists.{cases_In, clash}
+use Rattle.obs_matroid.proofs.Lists.{cases_In}
 use Rattle.obs_meter.specs.declared.Touch.{Touch}
 use Rattle.obs_meter.specs.Spanned.{graph_matroid}
 use Rattle.obs_meter.specs.Touches.{is_live, live_items, touch_at}

@@ -1,5 +1,5 @@
 -- A meter to which no source leads: without those that lead to it a closed set is closed still.
-use Rattle.std.proofs.Common.{◌≡◌, ℕ, suc, ◌<◌, List, [], ◌∷◌, length, refl, sym, ap, ◌∙◌, subst, inl, inr, ◌⊎◌, Bool, true, false, not, ◌||◌, ◌&&◌, Option, None, Some, arith}
+use Rattle.std.proofs.Common.{◌≡◌, ℕ, suc, ◌<◌, List, [], ◌∷◌, length, refl, sym, ap, ◌∙◌, subst, inl, inr, Bool, true, false, not, ◌||◌, ◌&&◌, Option, arith}
 use Rattle.std.proofs.lemmas.Bool.{cases_Bool, cases_eq, or_left, or_right, or_cases, or_parts, and_from, and_parts, not-true}
 use Rattle.obs_graph.specs.declared.Ends.{Ends}
 use Rattle.obs_graph.specs.Graph.{Graph}
@@ -10,15 +10,13 @@ use Rattle.obs_matroid.specs.inner.Matroid.{IsMatroid}
 use Rattle.obs_matroid.specs.Assignments.{Pair, items, branches, IsAssignment}
 use Rattle.obs_matroid.specs.inner.Assignments.{part, others}
 use Rattle.obs_matroid.specs.inner.Closed.{Extends, HasFrozen, HoldsSources, IsClosed, IsLeastClosed, every}
-use Rattle.obs_matroid.specs.inner.Graphic.{IsJoining}
 use Rattle.obs_matroid.proofs.Closed.{least_not_frozen}
-use Rattle.obs_matroid.proofs.Comparing.{cases_Option}
 use Rattle.obs_matroid.proofs.Exchange.{length-put_in}
 use Rattle.obs_matroid.proofs.Least.{grows_or_closes, spans_cut}
 use Rattle.obs_matroid.proofs.Lists.{clash, In_same, In-filter, In-filter_from, IsDistinct-filter, other_ne, other_true}
 use Rattle.obs_matroid.proofs.Pairs.{In-branches, In-branches_from, In-items_from, In-items, In-part, In-part_from, IsDistinct-part, independent_part, items_within, more_pairs}
 use Rattle.obs_matroid.proofs.Spans.{spans_more}
-use Rattle.obs_matroid.proofs.Slots.{slot_at, slot_from}
+use Rattle.obs_matroid.proofs.Slots.{slot_from}
 use Rattle.obs_meter.specs.declared.Touch.{Touch}
 use Rattle.obs_meter.specs.Spanned.{ends_at, graph_matroid, joined_at}
 use Rattle.obs_meter.specs.Touches.{is_live, live_items, touch_at}
@@ -30,7 +28,7 @@ use Rattle.obs_assign.specs.inner.Assignment.{IsWhole, StandsOver, branch_at, ha
 use Rattle.obs_assign.specs.inner.Pins.{joins}
 use Rattle.obs_assign.proofs.Slotted.{none_some, some_same}
 use Rattle.obs_exchange.specs.declared.Sources.TheVariants.{All}
-use Rattle.obs_first.specs.inner.Backwards.{HasNoWayTo, IsCutOff, IsOnOneSide, StaysOff}
+use Rattle.obs_first.specs.inner.Backwards.{HasNoWayTo, IsCutOff, IsOnOneSide}
 use Rattle.obs_exchange.specs.inner.Closed.{HoldsSourcesAt, IsClosedAt}
 use Rattle.obs_exchange.proofs.AtGraph.{IsAssignment-live}
 

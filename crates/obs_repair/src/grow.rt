@@ -13,13 +13,15 @@ ghost use Rattle.obs_kept.specs.inner.Kept.{AreLongest};
 ghost use Rattle.obs_repair.specs.inner.Repairing.{IsBack, IsMeterBack};
 
 use crate::edit::Edit;
+use crate::hole::look_across;
 use obs_assign::{Assignment, Steps};
 use obs_exchange::{Found, Lengthened, Sources, Work, regrow, search};
+use obs_graph::Ends;
 use obs_network::Present;
 use std::sync::ledger::Ledger;
 
 /// The meter that the edit puts in service.
-fn back(edit: Edit) -> Option<u32>
+pub(crate) fn back(edit: Edit) -> Option<u32>
     ensures back { IsMeterBack edit result }
 {
     match edit {
@@ -68,11 +70,12 @@ fn search_back<L: Ledger>(
 }
 
 /// Makes the pairs longest, of which no assignment has more than `most`. Where a meter came back no pair but one of its own
-/// can be missing, so that one search from it is enough. Says how many searches it took, and whether one from all sources
-/// ended closed.
+/// can be missing, so that one search from it is enough. The first search begins near the hole that a pair left, if one did.
+/// Says how many searches it took, and whether one from all sources ended closed.
 pub(crate) fn grow<L: Ledger>(
     present: &Present<'_>,
     edit: Edit,
+    hole: Option<Ends>,
     most: u32,
     a: &mut Assignment,
     work: &mut Work,
@@ -97,6 +100,9 @@ pub(crate) fn grow<L: Ledger>(
             searches: search_back(present, m, most, a, work, steps),
             closed: false,
         },
-        None => regrow(present.graph(), present.meters(), a, most, work, steps),
+        None => {
+            look_across(present, hole, most, a, work);
+            regrow(present.graph(), present.meters(), a, most, work, steps)
+        }
     }
 }

@@ -14,11 +14,13 @@ ghost use Rattle.obs_repair.specs.inner.Kept.{HasRoom};
 
 use crate::edit::Edit;
 use crate::grow::grow;
+use crate::hole::{joined_by, note_change};
 use crate::limit::{is_between, least, limit, settle};
 use crate::parts::Parts;
 use obs_assign::{Assignment, Steps};
 use obs_case::Case;
 use obs_exchange::Work;
+use obs_graph::Ends;
 use obs_network::{Network, Present};
 use std::sync::ledger::Ledger;
 
@@ -59,8 +61,8 @@ fn taken(edit: Edit, a: &Assignment) -> Option<u32>
     }
 }
 
-/// Gives up the pair that the edit takes away. The network is still that of before.
-fn give_up(case: &Case, network: &Network, edit: Edit, a: &mut Assignment)
+/// Gives up the pair that the edit takes away. The network is still that of before. Says which ends the pair joined.
+fn give_up(case: &Case, network: &Network, edit: Edit, a: &mut Assignment) -> Option<Ends>
     requires before { IsBefore case.now edit network.now a.old }
     ensures left { AreLeft edit a.old a.new }
     ensures stands { StandsOver a.new network.now.graph network.now.meters.touches }
@@ -68,9 +70,12 @@ fn give_up(case: &Case, network: &Network, edit: Edit, a: &mut Assignment)
     ensures thawed { IsThawed a.new }
     ensures same_room { HasRoomOf a.old a.new }
 {
-    if let Some(m) = taken(edit, a) {
-        a.drop_pair(network.graph(), m);
-    }
+    let Some(m) = taken(edit, a) else {
+        return None;
+    };
+    let joined = joined_by(network.graph(), a, m);
+    a.drop_pair(network.graph(), m);
+    joined
 }
 
 /// Makes the network that of the case after an edit. Says whether nothing changed but the meter or the branch of the
@@ -163,13 +168,14 @@ pub fn repair<L: Ledger>(
 {
     let had = a.length();
     let between = is_between(edit, network, parts);
-    give_up(case, network, edit, a);
+    let joined = give_up(case, network, edit, a);
     let alone = follow(case, edit, network);
     let present = Present { case, network };
     keep_standing(&present, edit, alone, a);
+    let hole = note_change(&present, edit, alone, joined, work);
     let bound = limit(edit, alone, between, had, &present, parts);
     let most = most_pairs(edit, alone, had, network.needed());
-    let grown = grow(&present, edit, least(most, bound), a, work, steps);
+    let grown = grow(&present, edit, hole, least(most, bound), a, work, steps);
     settle(&present, a, work.reached(), grown.closed, bound, parts);
     grown.searches
 }

@@ -1,5 +1,5 @@
 -- What the arrays of a network hold.
-use Rattle.std.specs.Prelude.{ℕ, suc, ◌+◌, ◌-◌, ◌*◌, ◌≡◌, ◌<◌, ◌≤◌, ◌^◌, All, Bool, if◌then◌else◌, Option, Some, None, List, length, map, slice_index, slice_index_or, sum, take}
+use Rattle.std.specs.Prelude.{ℕ, suc, ◌+◌, ◌-◌, ◌*◌, ◌≡◌, ◌<◌, ◌≤◌, ◌^◌, All, Bool, if◌then◌else◌, Option, Some, None, List, length, map, slice_index, sum, take}
 use Rattle.obs_graph.specs.declared.Ends.{Ends}
 use Rattle.obs_graph.specs.inner.Search.{State, room_of}
 use Rattle.obs_graph.specs.Graph.{Graph}
@@ -12,7 +12,6 @@ use Rattle.obs_meter.specs.Held.{Meters}
 use Rattle.obs_meter.specs.inner.Touches.{AreInRange}
 use Rattle.obs_network.specs.declared.marks.Flag.{Flag}
 use Rattle.obs_network.specs.declared.marks.Flag.TheVariants.{Source, Absolute}
-use Rattle.obs_network.specs.Components.{if_energised}
 use Rattle.obs_network.specs.Network.{Components}
 use Rattle.obs_network.specs.Located.{touch_component}
 use Rattle.obs_network.specs.inner.Sides.{Sides}

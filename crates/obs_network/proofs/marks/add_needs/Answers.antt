@@ -1,8 +1,5 @@
-use Rattle.std.proofs.Common.{rules, ◌≡◌, ◌≢◌, ◌<◌, ◌≤◌, ◌^◌, ℕ, All, length, slice_index, take, ◌+◌, ◌-◌, Bool, true, false, List, slice_index_or, arith}
-use Rattle.std.specs.Prelude.{sum}
+use Rattle.std.proofs.Common.{rules, ◌-◌, true, arith}
 use Rattle.std.proofs.lemmas.List.Sums.{sum_by_more}
-use Rattle.obs_network.specs.Components.{needed_of}
-use Rattle.obs_network.specs.inner.Kept.{need_by}
 use Rattle.obs_network.proofs.marks.add_needs.Goals as goal
 use Rattle.obs_network.proofs.marks.add_needs.Goals.{then-energised-c, else-energised-c}
 

@@ -7,8 +7,8 @@ taken-requires c = record {
   whole = c.requires.before.longest.whole;
 }
 
-pub returns-in-Some-clause-left : goal.returns-in-Some-clause-left
-returns-in-Some-clause-left c = record {
+pub returns-clause-left : goal.returns-clause-left
+returns-clause-left c = record {
   turns = c.drop_pair.ensures.turns;
   left = left-dropped c.args.a.now c.drop_pair.new.self c.in-Some.m c.drop_pair.ensures.dropped c.args.edit (c.in-Some.ensures.taken).1;
 }

@@ -23,9 +23,9 @@ invariant_of-present g c = (c.follow-alone.ensures.network, valid_now c.args.cas
 pub keep_standing-requires-clause-alone : goal.keep_standing-requires-clause-alone
 keep_standing-requires-clause-alone g c =
     let h = c.requires.before in
-    stands-alone c.args.case.now c.args.edit c.args.network.now c.args.a.now h c.give_up.new.a c.give_up.ensures.left
-    (valid_now c.args.case.now c.requires.before.before c.args.edit c.requires.before.same c.requires.before.valid) c.give_up.ensures.whole
-    (subst (λ (x : Network). StandsOver c.give_up.new.a x.graph x.meters.touches) h.network c.give_up.ensures.stands)
+    stands-alone c.args.case.now c.args.edit c.args.network.now c.args.a.now h c.give_up-joined.new.a c.give_up-joined.ensures.left
+    (valid_now c.args.case.now c.requires.before.before c.args.edit c.requires.before.same c.requires.before.valid) c.give_up-joined.ensures.whole
+    (subst (λ (x : Network). StandsOver c.give_up-joined.new.a x.graph x.meters.touches) h.network c.give_up-joined.ensures.stands)
     c.follow-alone.result c.follow-alone.new.network c.follow-alone.ensures.network c.follow-alone.ensures.alone
 
 pub is_between-between-requires : goal.is_between-between-requires
@@ -59,28 +59,28 @@ grow-grown-requires-clause-most g c =
 pub grow-grown-requires-clause-back : goal.grow-grown-requires-clause-back
 grow-grown-requires-clause-back g c m is =
     let t = c.args.case.now in
-    let b = c.give_up.new.a in
+    let b = c.give_up-joined.new.a in
     let k = c.keep_standing.ensures in
     let surely = subst (λ (x : Edit). IsSaidAlone x c.follow-alone.result c.args.network.now c.follow-alone.new.network) is c.follow-alone.ensures.alone in
     let stands = subst (λ (x : Assignment). StandsOver x (network_of t).graph (network_of t).meters.touches) (k.same surely) k.stands in
     let back = is_back t (valid_now c.args.case.now c.requires.before.before c.args.edit c.requires.before.same c.requires.before.valid) c.args.network.now c.args.a.now m (subst (λ (x : Edit). IsBefore t x c.args.network.now c.args.a.now) is c.requires.before)
-    b (subst (λ (x : Edit). AreLeft x c.args.a.now b) is c.give_up.ensures.left) stands in
+    b (subst (λ (x : Edit). AreLeft x c.args.a.now b) is c.give_up-joined.ensures.left) stands in
     subst (λ (x : Assignment). IsBack (network_of t).graph (network_of t).meters.touches m x) (sym (k.same surely)) back
 
 pub returns-clause-repaired : goal.returns-clause-repaired
 returns-clause-repaired g c =
     IsRepaired-by c.args.case.now c.args.a.now c.keep_standing.new.a c.grow-grown.new.a c.grow-grown.result.searches
-    (kept-left c.args.case.now c.args.edit c.args.network.now c.args.a.now c.requires.before c.give_up.new.a c.give_up.ensures.left c.keep_standing.new.a c.keep_standing.ensures.kept) c.grow-grown.ensures.lengthened
+    (kept-left c.args.case.now c.args.edit c.args.network.now c.args.a.now c.requires.before c.give_up-joined.new.a c.give_up-joined.ensures.left c.keep_standing.new.a c.keep_standing.ensures.kept) c.grow-grown.ensures.lengthened
 
 pub returns-clause-meter : goal.returns-clause-meter
 returns-clause-meter g c =
-    one_search c.args.edit c.args.a.now c.give_up.new.a c.give_up.ensures.left c.keep_standing.new.a c.grow-grown.new.a c.grow-grown.result.searches c.length-had.result c.needed.result c.most_pairs-most.result
+    one_search c.args.edit c.args.a.now c.give_up-joined.new.a c.give_up-joined.ensures.left c.keep_standing.new.a c.grow-grown.new.a c.grow-grown.result.searches c.length-had.result c.needed.result c.most_pairs-most.result
     c.follow-alone.result c.keep_standing.ensures.same c.length-had.ensures.length c.most_pairs-most.ensures.most (let some = c.grow-grown.ensures.bound in let few = c.least.ensures.within in omega (arith, some, few)) c.grow-grown.ensures.lengthened
     (λ at inservice is. subst (λ (x : Edit). IsSaidAlone x c.follow-alone.result c.args.network.now c.follow-alone.new.network) is c.follow-alone.ensures.alone)
 
 pub returns-clause-without_pair : goal.returns-clause-without_pair
 returns-clause-without_pair g c at is none =
-    no_search_bare c.args.edit c.args.a.now c.give_up.new.a c.give_up.ensures.left c.keep_standing.new.a c.grow-grown.new.a c.grow-grown.result.searches c.length-had.result c.needed.result c.most_pairs-most.result
+    no_search_bare c.args.edit c.args.a.now c.give_up-joined.new.a c.give_up-joined.ensures.left c.keep_standing.new.a c.grow-grown.new.a c.grow-grown.result.searches c.length-had.result c.needed.result c.most_pairs-most.result
     c.follow-alone.result c.keep_standing.ensures.same c.length-had.ensures.length c.most_pairs-most.ensures.most (let some = c.grow-grown.ensures.bound in let few = c.least.ensures.within in omega (arith, some, few)) c.grow-grown.ensures.lengthened
     at is (subst (λ (x : Edit). IsSaidAlone x c.follow-alone.result c.args.network.now c.follow-alone.new.network) is c.follow-alone.ensures.alone) none
 
