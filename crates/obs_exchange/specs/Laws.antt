@@ -1,4 +1,4 @@
--- What the laws of the search are said of.
+-- Items that aren't critical, computed.
 use Rattle.std.specs.Prelude.{ℕ, Bool, not, Option, List}
 use Rattle.obs_graph.specs.declared.Ends.{Ends}
 use Rattle.obs_matroid.specs.Values.{is_critical}

@@ -1,4 +1,4 @@
--- A row whose outage parts its ends or leaves them joined, and the two sides that it leaves. `rows` has the ends of the rows.
+-- A case with one of its branches out of service.
 use Rattle.std.specs.Prelude.{ℕ, false}
 use Rattle.obs_case.specs.Flags.{with_branch_inservice}
 use Rattle.obs_case.specs.Tables.{Tables}

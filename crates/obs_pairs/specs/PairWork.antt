@@ -1,4 +1,4 @@
--- What is kept of classes that were found.
+-- Classes of more than one meter.
 use Rattle.std.specs.Prelude.{ℕ, ◌==◌, ◌&&◌, Bool, not, List, length, slice_index}
 use Rattle.std.specs.List.{list_any, range_with_len}
 

@@ -1,4 +1,4 @@
--- What the layers of a plan and the bound of a shortfall show.
+-- The layers of a plan without what they list.
 use Rattle.obs_matroid.specs.Placement.{Layer}
 use Rattle.obs_placement.specs.declared.plans.Layer.{Layer as PlanLayer}
 

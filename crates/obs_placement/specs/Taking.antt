@@ -1,4 +1,4 @@
--- Where the taking of items stands.
+-- The items that cost less than a price, and those of them that a layer which ends there lists.
 use Rattle.std.specs.Prelude.{ℕ, ◌&&◌, Bool, nat_lt, Option, List}
 use Rattle.obs_graph.specs.declared.Ends.{Ends}
 use Rattle.obs_meter.specs.declared.Touch.{Touch}

@@ -1,4 +1,4 @@
--- What an edit makes of a case, and how the kept pairs are repaired.
+-- What an edit makes of a case.
 use Rattle.obs_case.specs.Flags.{with_branch_inservice, with_closed, with_meter_inservice}
 use Rattle.obs_case.specs.Tables.{Tables}
 use Rattle.obs_repair.specs.declared.edit.Edit.{Edit}
