@@ -14,7 +14,8 @@ use crate::Move;
 use crate::kept::Kept;
 use obs_graph::Graph;
 
-/// Of the meters that have these branches one that isn't frozen: m, where it has one of them.
+/// Of the meters that have these branches one that isn't frozen: m, where it has one of them, else the first. The ways up from
+/// where the first branches lie are the longest, so the least is walked where such a branch goes.
 pub fn spare_of(path: &[u32], owners: &[Option<u32>], frozen: &[bool], m: u32) -> Option<u32>
     requires low { All (λ p. p < length owners.now) path.now }
     requires owned { All (λ p. IsSome (slice_index_or owners.now p None)) path.now }
@@ -30,7 +31,7 @@ pub fn spare_of(path: &[u32], owners: &[Option<u32>], frozen: &[bool], m: u32) -
             if x == m {
                 return Some(m);
             }
-            if !frozen[x as usize] {
+            if spare.is_none() && !frozen[x as usize] {
                 spare = Some(x);
             }
         }
