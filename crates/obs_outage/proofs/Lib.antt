@@ -1,5 +1,7 @@
 pub mod Restored
 pub mod LeftOut
+pub mod Touching
+pub mod AtVertices
 pub mod WithoutRow
 pub mod InOutage
 pub mod Carried

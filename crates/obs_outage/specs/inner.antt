@@ -7,6 +7,7 @@ pub mod Sparing
 pub mod Costly
 pub mod Alone
 pub mod Settled
+pub mod AtVertices
 pub mod Without
 pub mod Told
 pub mod Ready

@@ -18,7 +18,7 @@ use crate::basis::Basis;
 use crate::dead::{count_lost, is_confined};
 use crate::feeds::Feeds;
 use crate::rowless::Without;
-use crate::short_way::{rank_without, settle};
+use crate::short_way::{miss, rank_without, settle};
 use crate::spared::Spared;
 use obs_assign::{Assignment, Steps};
 use obs_case::Case;
@@ -99,7 +99,7 @@ fn unfed_entry(
 }
 
 /// Makes the pairs miss the row, where it is had by a meter that touches branches on the side that stays, and it isn't costly.
-/// False where the row is flagged as spared, and such a meter has it.
+/// Says whether they do then, or the row is costly.
 fn frees<L: Ledger>(
     e: u32,
     side: &[u32],
@@ -119,7 +119,7 @@ fn frees<L: Ledger>(
         return true;
     }
     if spared.flags()[e as usize] {
-        return false;
+        return miss(e, kept, without, spared, steps);
     }
     settle(e, kept, without, spared, steps);
     true

@@ -1,6 +1,7 @@
 //! What becomes of a case where one branch goes out of service.
 #![tactic(auto)]
 
+mod at_vertices;
 mod basis;
 mod bridges;
 mod costly;

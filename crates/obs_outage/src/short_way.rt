@@ -1,5 +1,6 @@
-// The short way of one outage: one search, from the critical meter that has the row, over the network without it.
-ghost use Rattle.std.specs.Prelude.{◌≡◌, ◌<◌, ℕ, Some, false, length};
+// The short way of one outage: one search, from the critical meter that has the row, over the network without it; or from all sources,
+// where longest pairs can miss the row.
+ghost use Rattle.std.specs.Prelude.{◌≡◌, ◌<◌, ℕ, IsTrue, Some, false, length};
 ghost use Rattle.obs_graph.specs.Positions.{AreBranches};
 ghost use Rattle.obs_meter.specs.inner.Sizes.{HasRoomFor};
 ghost use Rattle.obs_meter.specs.Touches.{live_items};
@@ -76,6 +77,72 @@ fn look_for_other<L: Ledger>(
         Found::Grown(_) => {}
         Found::Closed => give_back(network, m, pairs, work, steps),
     }
+}
+
+/// Takes a row from the meter m, and looks for one pair more over the network without the row, from all sources. Where there is none,
+/// the meter gets the row back. Says whether the pairs miss it.
+fn find_another<L: Ledger>(
+    e: u32,
+    m: u32,
+    network: &Network,
+    without: &Without,
+    pairs: &mut Assignment,
+    work: &mut Work,
+    steps: &mut Steps<L>,
+) -> bool
+    requires without { IsWithout network.now e without.now }
+    requires longest { AreLongestOver network.now pairs.old }
+    requires owner { branch_at pairs.old m ≡ Some e }
+    requires room { HasRoomFor work.old.sizes network.now.graph network.now.meters.touches }
+    ensures missed { IsTrue result → IsMissed pairs.new e }
+    ensures longest { AreLongestOver network.now pairs.new }
+    ensures same_room { HasRoomOf pairs.old pairs.new }
+    ensures same_sizes { work.new.sizes ≡ work.old.sizes }
+{
+    pairs.drop_pair(network.graph(), m);
+    let _ = network.meters();
+    let g = &without.graph;
+    let ms = &without.meters;
+    match search(g, ms, pairs, Sources::All, work, steps) {
+        Found::Grown(_) => true,
+        Found::Closed => {
+            give_back(network, m, pairs, work, steps);
+            false
+        }
+    }
+}
+
+/// Makes the pairs miss a row that longest pairs can miss. Says whether they do.
+pub(crate) fn miss<L: Ledger>(
+    e: u32,
+    kept: &mut Kept,
+    without: &mut Without,
+    spared: &Spared,
+    steps: &mut Steps<L>,
+) -> bool
+    requires ready { IsReady kept.old without.old spared.now }
+    requires row { e < kept.old.network.rows.branches }
+    ensures missed { IsTrue result → IsMissed kept.new.pairs e }
+    ensures ready { IsReady kept.new without.new spared.now }
+    ensures network { kept.new.network ≡ kept.old.network }
+    ensures quiet { IsMissed kept.old.pairs e → (steps.new ≡ steps.old) × (kept.new.pairs ≡ kept.old.pairs) }
+{
+    let _ = spared;
+    let Some(m) = kept.pairs.meter_of(e) else {
+        return true;
+    };
+    without.leave_out(&kept.network, e);
+    let missed = find_another(
+        e,
+        m,
+        &kept.network,
+        without,
+        &mut kept.pairs,
+        &mut kept.work,
+        steps,
+    );
+    without.put_back(&kept.network, e);
+    missed
 }
 
 /// Makes the pairs miss a row, where longest pairs can.

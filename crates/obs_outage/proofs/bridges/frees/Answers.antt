@@ -30,7 +30,12 @@ returns-then-is_confined g c = record {
 }
 
 pub returns-then-flags-e : goal.returns-then-flags-e
-returns-then-flags-e g c = record { freed = λ t. absurd (cc t); ready = c.requires.ready; network = refl; quiet = λ missed. (refl, refl) }
+returns-then-flags-e g c = record {
+  freed = λ yes. inl (λ m h has hub. absurd (c.miss.ensures.missed yes m has));
+  ready = c.miss.ensures.ready;
+  network = c.miss.ensures.network;
+  quiet = c.miss.ensures.quiet;
+}
 
 pub returns : goal.returns
 returns g c = record {
