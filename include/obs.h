@@ -11,10 +11,10 @@
 #include <stdint.h>
 
 /* The version of this header, as text and by its three numbers. */
-#define OBS_VERSION "0.8.4"
+#define OBS_VERSION "0.8.5"
 #define OBS_VERSION_MAJOR 0
 #define OBS_VERSION_MINOR 8
-#define OBS_VERSION_PATCH 4
+#define OBS_VERSION_PATCH 5
 #define OBS_VERSION_NUMBER (OBS_VERSION_MAJOR * 1000000u + OBS_VERSION_MINOR * 1000u + OBS_VERSION_PATCH)
 
 #ifdef __cplusplus

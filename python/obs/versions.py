@@ -3,11 +3,11 @@ from __future__ import annotations
 
 from . import library
 
-VERSION = "0.8.4"
+VERSION = "0.8.5"
 
 
 def version() -> str:
-    """The version of the library, as "0.8.4". That of this package is `obs.__version__`.
+    """The version of the library, as "0.8.5". That of this package is `obs.__version__`.
 
     Raises LibraryMissing where there is no library, or one without this call.
     """

@@ -6,7 +6,7 @@ const MAJOR: u32 = 0;
 
 const MINOR: u32 = 8;
 
-const PATCH: u32 = 4;
+const PATCH: u32 = 5;
 
 /// The version as one number: 1,000,000 times its first number, 1,000 times its second, and its third.
 #[unsafe(no_mangle)]

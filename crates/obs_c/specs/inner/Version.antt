@@ -8,7 +8,7 @@ abbrev pub minor : ℕ
 minor = 8
 
 abbrev pub patch : ℕ
-patch = 4
+patch = 5
 
 -- the numbers of a version as one
 abbrev pub version_number : ℕ → ℕ → ℕ → ℕ
