@@ -10,8 +10,9 @@ use obs_assign::{Assignment, Steps};
 use obs_exchange::Over;
 use std::sync::ledger::Ledger;
 
-// So many settled classes are worth a round, which makes the searches of new pairs and two more; alone a class takes two.
-const WORTH: usize = 64;
+// So many settled classes are worth a round, which makes the searches of new pairs and two more; alone a class takes two, and
+// these walk further.
+const WORTH: usize = 24;
 
 // How many meters wait.
 fn count_waiting(waiting: &[bool]) -> usize

@@ -10,6 +10,9 @@ use crate::without::rank_without;
 use obs_assign::{Assignment, Steps};
 use std::sync::ledger::Ledger;
 
+// A round may take so many searches more than it saves: those for a station alone walk further than those of a round.
+const LOSS: u32 = 32;
+
 // Finds the rank without a station that has a live meter without a pair, where there is one whose rank isn't known. That
 // takes a search less than the station may take.
 fn settle_vacant<L: Ledger>(
@@ -81,7 +84,7 @@ fn settle_round<L: Ledger>(
     (given - count - 3).saturating_add(gain)
 }
 
-// Makes rounds as long as more searches are left after each.
+// Makes rounds as long as each takes few searches more than it saves.
 fn settle_rounds<L: Ledger>(
     over: &Grouping<'_>,
     a: &mut Assignment,
@@ -100,7 +103,7 @@ fn settle_rounds<L: Ledger>(
     for _round in 0..512u32 {
         if worth {
             let next = settle_round(over, a, room, rounds, given, steps);
-            worth = given < next;
+            worth = given.saturating_sub(LOSS) < next;
             given = next;
         }
     }
