@@ -14,8 +14,12 @@ use crate::Move;
 use crate::kept::Kept;
 use obs_graph::Graph;
 
+// Where more branches than these are on the way, the last one goes.
+const LONG: usize = 1024;
+
 /// Of the meters that have these branches one that isn't frozen: m, where it has one of them, else the first. The ways up from
-/// where the first branches lie are the longest, so the least is walked where such a branch goes.
+/// where the first branches lie are the longest, so the least is walked where such a branch goes. But ways get longer by this, so
+/// of a long one it is the last.
 pub fn spare_of(path: &[u32], owners: &[Option<u32>], frozen: &[bool], m: u32) -> Option<u32>
     requires low { All (λ p. p < length owners.now) path.now }
     requires owned { All (λ p. IsSome (slice_index_or owners.now p None)) path.now }
@@ -25,13 +29,14 @@ pub fn spare_of(path: &[u32], owners: &[Option<u32>], frozen: &[bool], m: u32) -
         ((p x : ℕ) → Contains path.now p → slice_index_or owners.now p None ≡ Some x → has_flag frozen.now x ≡ true)
         (λ x. IsSpareOf path.now owners.now frozen.now m x) }
 {
+    let long = path.len() > LONG;
     let mut spare = None;
     for p in path {
         if let Some(x) = owners[*p as usize] {
             if x == m {
                 return Some(m);
             }
-            if spare.is_none() && !frozen[x as usize] {
+            if (long || spare.is_none()) && !frozen[x as usize] {
                 spare = Some(x);
             }
         }
