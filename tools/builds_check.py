@@ -5,7 +5,7 @@ Usage: tools/builds_check.py
 
 Two calls at once prove each crate once. A program that is built answers while a library is built beside it, also where a build left its
 log, and where `rt ci` has set it aside; after a change of a source it is built anew. Words that aren't a command are told on standard
-error, and the output and the status are the program's. Nothing is proved, and no kit is needed.
+error, and the output and the status are the program's, or, where none is built, as the program's, and nothing is proved. Nothing is proved, and no kit is needed.
 """
 import os
 import shutil
@@ -98,6 +98,15 @@ def ends(what, run):
         fail(what, "ends with", run.returncode, said)
 
 
+def try_unbuilt(place):
+    """Words that aren't a command where no program is built."""
+    done = subprocess.run([f"{place.home}/tools/run", "app", "report", "cdf", "a"], capture_output=True, text=True, env=place.environment)
+    if done.returncode != 2 or not done.stdout.startswith("usage: obs ") or not done.stderr.startswith("obs: report cdf takes"):
+        fail("words that aren't a command are answered, with no program, by", done.returncode, done.stdout, done.stderr)
+    if place.proved():
+        fail("words that aren't a command prove something")
+
+
 def try_two(place):
     """Two first calls side by side, and a third for what one of them makes."""
     runs = [place.begin("prove", "book"), place.begin("run", "app", *RIGHT), place.begin("run", "app", *RIGHT)]
@@ -152,7 +161,7 @@ def try_words(place):
 def main():
     with tempfile.TemporaryDirectory() as folder:
         place = Place(folder)
-        for one in (try_two, try_beside, try_left, try_words):
+        for one in (try_unbuilt, try_two, try_beside, try_left, try_words):
             one(place)
     print("builds: side by side, beside a library's, after others, and words that are no command")
 

@@ -3,6 +3,7 @@
 Where the program's name ends with .so it is the library for C: then its one call answers in the place of the program.
 """
 import collections
+import importlib.util
 import os
 import shlex
 import shutil
@@ -15,6 +16,18 @@ from by_library import Library
 
 MOST_SECONDS = 600
 KEPT = os.path.normpath(os.path.join(os.path.dirname(os.path.abspath(__file__)), "..", "differs"))
+
+
+def words_usage():
+    """What the callers of the program say of words: python/obs/usage.py."""
+    path = os.path.join(os.path.dirname(os.path.abspath(__file__)), "..", "python", "obs", "usage.py")
+    spec = importlib.util.spec_from_file_location("words_usage", path)
+    module = importlib.util.module_from_spec(spec)
+    spec.loader.exec_module(module)
+    return module
+
+
+USAGE = words_usage()
 
 
 class Runs:
@@ -50,6 +63,9 @@ class Runs:
         wanted = (text.encode("utf-8", "surrogateescape"), status)
         if found != wanted:
             self.differs(number, words, given, found, wanted)
+        texts = [os.fsencode(word).decode("utf-8", "surrogateescape") for word in words]
+        if bool(USAGE.said(texts)) != (wanted == (USAGE.LINE.encode(), 2)):
+            self.differs(number, words, given, (b"the callers say: " + USAGE.said(texts).encode("utf-8", "backslashreplace"), "says"), wanted)
         if said is not None and not self.library and self.said != said.encode():
             self.differs(number, words, given, (self.said, "says"), (said.encode(), "says"))
 

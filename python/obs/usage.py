@@ -1,9 +1,9 @@
 """What is wrong with words that aren't a command of obs, in a sentence; and what is asked for by --help and --version.
 
-`python3 -I python/obs/usage.py WORDS` says it on standard error, and nothing of words that are right;
+`python3 -I python/obs/usage.py WORDS` says it on standard error, with status 11, and nothing of words that are right;
 --help and --version are answered on standard output, with status 10, of which the callers make 0. It imports no other file of this
 package. tools/usage calls it for ./obs, ./obs-large and ./look, and `python -m obs` as a module. The program itself prints the usage line
-then, with status 2.
+then, with status 2; where OBS_UNBUILT is set no program is there, and the line is printed here.
 """
 from __future__ import annotations
 
@@ -30,6 +30,11 @@ COMMANDS = {
 }
 BEHIND = {"place": ["candidates"], "verify": ["certificate"]}
 NUMBERS = ["no", "one", "two", "three", "four", "five", "six", "seven", "eight", "nine"]
+# What the program prints of words that aren't a command.
+LINE = (
+    "usage: obs topology N S | report FORM | place FORM CAND | session FORM | verify FORM CERT | trial N SEED | outages FORM | pairs FORM"
+    " | stations FORM\n"
+)
 HELP = """obs WORDS, where WORDS are
   report|outages|pairs|stations FORM   {report}; or
                                        what is left without a branch, two meters or a station
@@ -160,4 +165,8 @@ if __name__ == "__main__":
     if answer is not None:
         sys.stdout.write(answer)
         sys.exit(10)
-    sys.stderr.write(said(given_words))
+    wrong_words = said(given_words)
+    sys.stderr.write(wrong_words)
+    if wrong_words:
+        sys.stdout.write(LINE if os.environ.get("OBS_UNBUILT") else "")
+        sys.exit(11)
